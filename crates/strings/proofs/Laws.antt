@@ -9,14 +9,14 @@ use native.Mathlib.Numerals.{add-one}
 use native.Mathlib.Omega.{arith}
 use lib.Bits.{bitXor, xor-assoc, xor-self, xor-zero-r, xor-lt}
 use lib.Arith.{mod-mul}
-use lib.ListN.{length, getD, take, drop}
+use lib.ListN.{length, getD, take, drop, replicate}
 use Rattle.std.specs.Iters.{counting}
 use Rattle.std.specs.shelf.Lists.{All}
-use Rattle.std.proofs.shelf.Lists.{length-append, length-take, length-drop, length-take-le, take-at, drop-at, take-take, take-append-le, drop-append-le, drop-drop, drop-take, append-assoc, same-from-push}
+use Rattle.std.proofs.shelf.Lists.{length-append, length-take, length-drop, length-take-le, take-at, drop-at, take-take, take-append-le, drop-append-le, drop-drop, drop-take, append-assoc, same-from-push, drop-replicate, take-replicate}
 use Rattle.std.proofs.shelf.Tests.{cases-lt}
-use Rattle.std.proofs.shelf.Elements.{all-take, all-drop}
+use Rattle.std.proofs.shelf.Elements.{all-take, all-drop, all-from-getD}
 use Rattle.std.proofs.shelf.Counted.{length-map-counting, map-counting-more}
-use Rattle.strings.specs.Strings.{Bytes, Str, xor, littleEndian, numeral, stringAt, putString}
+use Rattle.strings.specs.Strings.{Bytes, Str, zeroString, xor, littleEndian, numeral, stringAt, putString}
 
 pub length-xor : (s m : List ℕ) → length (xor s m) ≡ length s
 length-xor [] m = refl
@@ -136,3 +136,11 @@ littleEndian-injective (suc k) m n e =
 
 pub numeral-injective : (m n : ℕ) → m < 2 ^ 128 → n < 2 ^ 128 → numeral m ≡ numeral n → m ≡ n
 numeral-injective m n hm hn e = sym (mod-eq-of-lt hm) ∙ littleEndian-injective 16 m n e ∙ mod-eq-of-lt hn
+
+-- an array of 16 bytes is a string
+pub str-from : (s : List ℕ) → length s ≡ 16 → ((i : ℕ) → getD s i 0 < 256) → Str s
+str-from s long small = (long, all-from-getD (λ b. b < 256) s 0 (λ i h. small i))
+
+-- each string of a row of zeros is the zero string
+pub stringAt-zeros : (n i : ℕ) → 16 * i + 16 ≤ n → stringAt (replicate n 0) i ≡ zeroString
+stringAt-zeros n i h = ap (take 16) (drop-replicate (16 * i) n 0) ∙ take-replicate 16 (n - 16 * i) 0 (omega arith)

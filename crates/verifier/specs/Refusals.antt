@@ -1,0 +1,14 @@
+-- The number of each refusal, as programs print it.
+-- Assumes nothing.
+use Prim.Native.Nat.{ℕ}
+use Rattle.verifier.specs.declared.refusal.Refusal.{Refusal}
+use Rattle.verifier.specs.declared.refusal.Refusal.the-variants.{Length, Kind, Parameters, Height, Layout, Leaf, Root}
+
+abbrev pub refusalNumber : Refusal → ℕ
+refusalNumber Length = 6
+refusalNumber Kind = 7
+refusalNumber Parameters = 8
+refusalNumber Height = 9
+refusalNumber Layout = 10
+refusalNumber Leaf = 11
+refusalNumber Root = 12
