@@ -6,6 +6,9 @@ mod refusal;
 mod release;
 mod verifying;
 
+pub use header::KEY;
+pub use header::RELEASE;
+pub use header::body_of;
 pub use key::OpenedKey;
 pub use opening::open;
 pub use refusal::Refusal;
