@@ -39,3 +39,21 @@ module _ (verify : List ℕ → List ℕ → Result ℕ Refusal) where
   sofar-all bytes rest answers inv e =
       subst (Outcomes verify bytes) (append-nil answers)
       (inv [] (subst (λ r. Outcomes verify r []) (sym (nil-from-length rest e)) none))
+
+  short-only : {bytes : List ℕ} {answers : List (Result ℕ Refusal)} → Outcomes verify bytes answers → 0 < length bytes → length bytes < 16 → answers ≡ Err Length ∷ []
+  short-only none some few = absurd (omega arith)
+  short-only (short s f) some few = refl
+  short-only (order long rest) some few = absurd (omega arith)
+
+  order-only : {bytes : List ℕ} {answers : List (Result ℕ Refusal)} → Outcomes verify bytes answers → 16 ≤ length bytes → (more : List (Result ℕ Refusal)) × (answers ≡ verify (take 16 bytes) (firstRecord (drop 16 bytes)) ∷ more) × Outcomes verify (afterRecord (drop 16 bytes)) more
+  order-only none long = absurd (omega arith)
+  order-only (short s f) long = absurd (omega arith)
+  order-only (order {answers = more} l rest) long = (more, refl, rest)
+
+  -- the answers are determined by the bytes
+  pub outcomes-unique : {bytes : List ℕ} {answers : List (Result ℕ Refusal)} → Outcomes verify bytes answers → (others : List (Result ℕ Refusal)) → Outcomes verify bytes others → others ≡ answers
+  outcomes-unique none others q = ended q refl
+  outcomes-unique (short s f) others q = short-only q s f
+  outcomes-unique (order {bytes = bytes} long rest) others q =
+      let o = order-only q long in
+      o .1 ∙ ap (λ more. verify (take 16 bytes) (firstRecord (drop 16 bytes)) ∷ more) (outcomes-unique rest (o .0) (o .2))

@@ -62,7 +62,8 @@ fn check_orders<H: TreeHash, C: Code>(
     key: &OpenedKey<'_>,
     bytes: &[u8],
 ) -> Result<Vec<Result<u16, Refusal>>, AllocError>
-    ensures { λ r. ⌜ made r (λ v. Outcomes (verifyRule (hashOf H·ChainHash H·TreeHash) (codeOf C·Code) (keyOf (now (key .entry)))) (now (bytes .entry)) (vec-items v)) ⌝ }
+    ensures answers { λ r. ⌜ made r (λ v. Outcomes (verifyRule (hashOf H·ChainHash H·TreeHash) (codeOf C·Code) (keyOf (now (key .entry)))) (now (bytes .entry)) (vec-items v)) ⌝ }
+    ensures only { λ r. ⌜ made r (λ v. (others : List (Result ℕ Refusal)) → Outcomes (verifyRule (hashOf H·ChainHash H·TreeHash) (codeOf C·Code) (keyOf (now (key .entry)))) (now (bytes .entry)) others → others ≡ vec-items v) ⌝ }
 {
     let mut outcomes = Vec::new(heap);
     let mut rest = bytes;

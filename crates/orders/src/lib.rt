@@ -6,3 +6,4 @@ mod report;
 pub use checking::check;
 pub use report::KeySummary;
 pub use report::Report;
+pub use report::ReportDisplay;

@@ -30,7 +30,8 @@ pub fn verify<H: TreeHash, C: Code>(
         stamp,
         release.row,
     );
-    if !same(&root, &string_at(key.root(), 0)) {
+    let wanted = string_at(key.root(), 0);
+    if !same(&root, &wanted) {
         return Err(Refusal::Root);
     }
     Ok(release.leaf)

@@ -5,7 +5,7 @@ use Rattle.std.proofs.Told.{chosen}
 use Rattle.std.specs.Of.Vec.{vec-items}
 use Rattle.std.specs.Results.{isOk}
 use Rattle.tree.specs.Meaning.{hashOf, codeOf}
-use Rattle.orders.proofs.Orders.{sofar-more, sofar-all}
+use Rattle.orders.proofs.Orders.{sofar-more, sofar-all, outcomes-unique}
 use Rattle.verifier.specs.Rules.{verifyRule}
 use Rattle.verifier.specs.Views.{keyOf}
 use Rattle.orders.proofs.checking.check_orders.Needs as need
@@ -20,4 +20,5 @@ loop-rest-again g c =
 pub returns : need.returns
 returns g c =
     let verify = verifyRule (hashOf (g .H·ChainHash) (g .H·TreeHash)) (codeOf (g .C·Code)) (keyOf (c .args .key .now)) in
-    sofar-all verify (c .args .bytes .now) (c .loop-rest .rest .now) (vec-items (c .loop-rest .outcomes)) (c .loop-rest .inv) (true-eqb _ 0 (c .loop-rest-test .ensures tt))
+    let all = sofar-all verify (c .args .bytes .now) (c .loop-rest .rest .now) (vec-items (c .loop-rest .outcomes)) (c .loop-rest .inv) (true-eqb _ 0 (c .loop-rest-test .ensures tt)) in
+    record { answers = all; only = outcomes-unique verify all }

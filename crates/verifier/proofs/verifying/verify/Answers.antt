@@ -18,7 +18,9 @@ use Rattle.verifier.specs.Rules.{readRule, rootShown, verifyRule}
 use Rattle.verifier.specs.Views.{keyOf, shownBy}
 use Rattle.verifier.specs.declared.refusal.Refusal.the-variants.{Root}
 use Rattle.verifier.proofs.Facts.{after-at, suited-to, read-to}
+use Rattle.verifier.proofs.verifying.verify.Given as given
 use Rattle.verifier.proofs.verifying.verify.Needs as need
+use Rattle.verifier.proofs.verifying.verify.Needs.{After-same}
 
 -- a release that was read, and the key that it was read under
 module _ (hash : ℕ) (code : Code) (key : Key) (bytes : List ℕ) (shown : Shown) (read : Ok shown ≡ readRule hash code key bytes) where
@@ -72,34 +74,31 @@ rebuild-root-root-requires g c κs =
       within = omega (arith, row-laid hash code key (c .args .bytes .now) _ read);
     }
 
-pub string-at-requires : need.string-at-requires
-string-at-requires g c κs =
+pub string-at-wanted-requires : need.string-at-wanted-requires
+string-at-wanted-requires g c κs =
     omega (arith, ap length (c .root .ensures), root-laid (g .H·ChainHash .numbered) (codeOf (g .C·Code)) (keyOf (c .args .key .now)) (c .args .bytes .now) _ (c .in-Continue-release .ensures tt .answer))
+
+-- what the comparison answered is what the rule compares
+told : (g : given.Over) (c : After-same g) → c .same .result ≡ sameBytes (rootShown (hashOf (g .H·ChainHash) (g .H·TreeHash)) (codeOf (g .C·Code)) (keyOf (c .args .key .now)) (c .args .stamp .now) (shownBy (c .in-Continue-release .release))) (rootOf (c .args .key .now .bytes .now))
+told g c =
+    let hash = hashOf (g .H·ChainHash) (g .H·TreeHash) in
+    let code = codeOf (g .C·Code) in
+    let key = keyOf (c .args .key .now) in
+    let bytes = c .args .bytes .now in
+    let shown = shownBy (c .in-Continue-release .release) in
+    let read = c .in-Continue-release .ensures tt .answer in
+    let keyed = c .string-at-hash-key .ensures ∙ alone (hashKeyOf (key .bytes)) _ (c .hash-key .ensures) (hash-key-laid (hash .number) code key bytes shown read) in
+    let rooted = c .string-at-wanted .ensures ∙ alone (rootOf (key .bytes)) _ (c .root .ensures) (root-laid (hash .number) code key bytes shown read) in
+    c .same .ensures .value ∙ compared hash code key (c .args .stamp .now) bytes shown read _ _ _ _ keyed (c .masks .ensures) rooted (c .rebuild-root-root .ensures)
 
 pub returns-then-not-same : need.returns-then-not-same
 returns-then-not-same g c =
-    let hash = hashOf (g .H·ChainHash) (g .H·TreeHash) in
-    let code = codeOf (g .C·Code) in
-    let key = keyOf (c .args .key .now) in
-    let stamp = c .args .stamp .now in
-    let bytes = c .args .bytes .now in
-    let shown = shownBy (c .in-Continue-release .release) in
-    let read = c .in-Continue-release .ensures tt .answer in
-    let keyed = c .string-at-hash-key .ensures ∙ alone (hashKeyOf (key .bytes)) _ (c .hash-key .ensures) (hash-key-laid (hash .number) code key bytes shown read) in
-    let rooted = c .string-at .ensures ∙ alone (rootOf (key .bytes)) _ (c .root .ensures) (root-laid (hash .number) code key bytes shown read) in
-    let same = c .if-not-same .ensures tt .value ∙ compared hash code key stamp bytes shown read _ _ _ _ keyed (c .masks .ensures) rooted (c .rebuild-root-root .ensures) in
-    sym (verdict hash code key stamp bytes shown read ∙ cond-true _ (Err Root) (Ok (shown .leaf)) (not-from-false _ (sym same)))
+    let same = told g (need.at·returns-then-not-same g c .After-same) in
+    sym (verdict (hashOf (g .H·ChainHash) (g .H·TreeHash)) (codeOf (g .C·Code)) (keyOf (c .args .key .now)) (c .args .stamp .now) (c .args .bytes .now) (shownBy (c .in-Continue-release .release)) (c .in-Continue-release .ensures tt .answer)
+    ∙ cond-true _ _ _ (not-from-false _ (sym same ∙ c .if-not-same .taken)))
 
 pub returns : need.returns
 returns g c =
-    let hash = hashOf (g .H·ChainHash) (g .H·TreeHash) in
-    let code = codeOf (g .C·Code) in
-    let key = keyOf (c .args .key .now) in
-    let stamp = c .args .stamp .now in
-    let bytes = c .args .bytes .now in
-    let shown = shownBy (c .in-Continue-release .release) in
-    let read = c .in-Continue-release .ensures tt .answer in
-    let keyed = c .string-at-hash-key .ensures ∙ alone (hashKeyOf (key .bytes)) _ (c .hash-key .ensures) (hash-key-laid (hash .number) code key bytes shown read) in
-    let rooted = c .string-at .ensures ∙ alone (rootOf (key .bytes)) _ (c .root .ensures) (root-laid (hash .number) code key bytes shown read) in
-    let same = c .if-not-same .ensures tt .value ∙ compared hash code key stamp bytes shown read _ _ _ _ keyed (c .masks .ensures) rooted (c .rebuild-root-root .ensures) in
-    sym (verdict hash code key stamp bytes shown read ∙ cond-false _ (Err Root) (Ok (shown .leaf)) (not-from-true _ (sym same)))
+    let same = told g (need.at·returns g c .After-same) in
+    sym (verdict (hashOf (g .H·ChainHash) (g .H·TreeHash)) (codeOf (g .C·Code)) (keyOf (c .args .key .now)) (c .args .stamp .now) (c .args .bytes .now) (shownBy (c .in-Continue-release .release)) (c .in-Continue-release .ensures tt .answer)
+    ∙ cond-false _ _ _ (not-from-true _ (sym same ∙ c .if-not-same .left)))
