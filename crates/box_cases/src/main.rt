@@ -4,7 +4,14 @@ use orders::check;
 use std::error::AnyError;
 use std::fs;
 
-const CASES: [&str; 3] = ["box_3_1", "box_3_2", "box_3_3"];
+const CASES: [&str; 6] = [
+    "box_2_1",
+    "box_2_2",
+    "box_2_3",
+    "box_3_1",
+    "box_3_2",
+    "box_3_3",
+];
 
 fn main(rt: LibcRuntime) -> Result<(), AnyError> {
     for case in CASES {

@@ -5,12 +5,16 @@ use Prim.Native.Nat.{ℕ}
 use lib.Dec.{eqb}
 use Rattle.std.specs.declared.option.Option.{Option}
 use Rattle.std.specs.declared.option.Option.the-variants.{Some, None}
+use Rattle.aes128.specs.Cipher.{aesStep, aesPair}
 use Rattle.codes.specs.Codes.{lamportDiffie, winternitz}
 use Rattle.hashes.specs.Practice.{practiceStep, practicePair}
 use Rattle.tree.specs.Meaning.{Hash, Code}
 
 abbrev pub practice : Hash
 practice = record { number = 3; step = practiceStep; pair = practicePair }
+
+abbrev pub aes : Hash
+aes = record { number = 2; step = aesStep; pair = aesPair }
 
 abbrev pub lamportDiffieCode : Code
 lamportDiffieCode = record { number = 1; count = 256; top = 1; levels = 8; digit = lamportDiffie }
@@ -23,7 +27,7 @@ winternitz4Code = record { number = 3; count = 35; top = 15; levels = 6; digit =
 
 -- the hash with this number
 abbrev pub hashNumbered : ℕ → Option Hash
-hashNumbered n = cond (eqb n 3) (Some practice) None
+hashNumbered n = cond (eqb n 2) (Some aes) (cond (eqb n 3) (Some practice) None)
 
 -- the code with this number
 abbrev pub codeNumbered : ℕ → Option Code

@@ -18,6 +18,9 @@ ghost use Rattle.verifier.specs.declared.refusal.Refusal.{Refusal};
 use crate::KeySummary;
 use crate::Report;
 use crate::records::split_record;
+use aes128::Aes128ChainHash;
+use aes128::Aes128Hash;
+use aes128::Aes128TreeHash;
 use codes::Code;
 use codes::LamportDiffie;
 use codes::LamportDiffieCode;
@@ -144,6 +147,7 @@ fn check_by_hash(heap: Global, key: &[u8], orders: &[u8]) -> Result<Report, Allo
     ensures { λ r. ⌜ made r (λ report. CheckedBy (hashNumbered (hashNumberOf (now (key .entry)))) (codeNumbered (codeNumberOf (now (key .entry)))) (now (key .entry)) (now (orders .entry)) report) ⌝ }
 {
     match byte_at(key, 6) {
+        Aes128Hash::NUMBER => check_by_code::<Aes128Hash>(heap, key, orders),
         Practice::NUMBER => check_by_code::<Practice>(heap, key, orders),
         _ => Ok(unknown(heap, key)),
     }
