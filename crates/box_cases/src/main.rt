@@ -4,7 +4,10 @@ use orders::check;
 use std::error::AnyError;
 use std::fs;
 
-const CASES: [&str; 6] = [
+const CASES: [&str; 9] = [
+    "box_1_1",
+    "box_1_2",
+    "box_1_3",
     "box_2_1",
     "box_2_2",
     "box_2_3",

@@ -8,10 +8,14 @@ use Rattle.std.specs.declared.option.Option.the-variants.{Some, None}
 use Rattle.aes128.specs.Cipher.{aesStep, aesPair}
 use Rattle.codes.specs.Codes.{lamportDiffie, winternitz}
 use Rattle.hashes.specs.Practice.{practiceStep, practicePair}
+use Rattle.sha256.specs.TreeHash.{shaStep, shaPair}
 use Rattle.tree.specs.Meaning.{Hash, Code}
 
 abbrev pub practice : Hash
 practice = record { number = 3; step = practiceStep; pair = practicePair }
+
+abbrev pub sha : Hash
+sha = record { number = 1; step = shaStep; pair = shaPair }
 
 abbrev pub aes : Hash
 aes = record { number = 2; step = aesStep; pair = aesPair }
@@ -27,7 +31,7 @@ winternitz4Code = record { number = 3; count = 35; top = 15; levels = 6; digit =
 
 -- the hash with this number
 abbrev pub hashNumbered : ℕ → Option Hash
-hashNumbered n = cond (eqb n 2) (Some aes) (cond (eqb n 3) (Some practice) None)
+hashNumbered n = cond (eqb n 1) (Some sha) (cond (eqb n 2) (Some aes) (cond (eqb n 3) (Some practice) None))
 
 -- the code with this number
 abbrev pub codeNumbered : ℕ → Option Code

@@ -32,6 +32,9 @@ use hashes::Practice;
 use hashes::PracticeChainHash;
 use hashes::PracticeTreeHash;
 use hashes::TreeHash;
+use sha256::Sha256ChainHash;
+use sha256::Sha256Hash;
+use sha256::Sha256TreeHash;
 use std::alloc::AllocError;
 use std::alloc::Global;
 use strings::string_at;
@@ -147,6 +150,7 @@ fn check_by_hash(heap: Global, key: &[u8], orders: &[u8]) -> Result<Report, Allo
     ensures { λ r. ⌜ made r (λ report. CheckedBy (hashNumbered (hashNumberOf (now (key .entry)))) (codeNumbered (codeNumberOf (now (key .entry)))) (now (key .entry)) (now (orders .entry)) report) ⌝ }
 {
     match byte_at(key, 6) {
+        Sha256Hash::NUMBER => check_by_code::<Sha256Hash>(heap, key, orders),
         Aes128Hash::NUMBER => check_by_code::<Aes128Hash>(heap, key, orders),
         Practice::NUMBER => check_by_code::<Practice>(heap, key, orders),
         _ => Ok(unknown(heap, key)),

@@ -60,6 +60,7 @@ pub length-littleEndian : (k n : ℕ) → length (littleEndian k n) ≡ k
 length-littleEndian k n = length-map-counting (λ j. n / 256 ^ j % 256) 0 k
 
 pub numeral-str : (n : ℕ) → Str (numeral n)
+unfolding numeral
 numeral-str n = (length-littleEndian 16 n, bytes-littleEndian 16 n)
 
 -- rows of pieces of any width w: what stands at piece i, and what a write to one piece leaves
@@ -135,6 +136,7 @@ littleEndian-injective (suc k) m n e =
     split m ∙ (λ i. parts .1 i * 256 ^ k + low i) ∙ sym (split n)
 
 pub numeral-injective : (m n : ℕ) → m < 2 ^ 128 → n < 2 ^ 128 → numeral m ≡ numeral n → m ≡ n
+unfolding numeral
 numeral-injective m n hm hn e = sym (mod-eq-of-lt hm) ∙ littleEndian-injective 16 m n e ∙ mod-eq-of-lt hn
 
 -- an array of 16 bytes is a string

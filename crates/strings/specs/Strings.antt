@@ -31,7 +31,7 @@ abbrev pub littleEndian : ℕ → ℕ → List ℕ
 littleEndian k n = map (λ j. n / 256 ^ j % 256) (counting 0 k)
 
 -- n written as a string
-abbrev pub numeral : ℕ → List ℕ
+unfoldable pub numeral : ℕ → List ℕ
 numeral n = littleEndian 16 n
 
 -- string number i of a row of strings

@@ -6,7 +6,7 @@ use mathlib.Core.Logic.{⊎-elim}
 use mathlib.Core.Bool.{cond}
 use Prim.Native.Nat.{ℕ, zero, suc, _+_, _-_, _*_, _/_, _%_, _^_, _<_, _≤_}
 use native.Mathlib.Numerals.{add-one}
-use native.Mathlib.Nat.{pow-succ', mul-assoc, mul-le-mul-right}
+use native.Mathlib.Nat.{pow-succ', mul-assoc, mul-comm, add-mul, one-mul}
 use native.Mathlib.Omega.{arith}
 use lib.Pow.{pow-mono}
 use Rattle.std.proofs.shelf.Bits.{one-shl}
@@ -31,17 +31,21 @@ pub node-parent : (parent : ℕ → List ℕ → List ℕ → List ℕ) (bottom 
 unfolding node
 node-parent parent bottom a d b = rw (add-one d, add-one a)
 
--- a node depends on the bottom strings below it alone
-pub node-same : (parent : ℕ → List ℕ → List ℕ → List ℕ) (f g : ℕ → List ℕ) (n a d b : ℕ) → ((k : ℕ) → k < n → f k ≡ g k) → (b + 1) * 2 ^ d ≤ n → node parent f a d b ≡ node parent g a d b
+-- a node depends on the bottom strings below it alone, wherever they stand
+pub node-moved : (parent : ℕ → List ℕ → List ℕ → List ℕ) (f g : ℕ → List ℕ) (a d b c : ℕ) → ((k : ℕ) → k < 2 ^ d → f (b * 2 ^ d + k) ≡ g (c * 2 ^ d + k)) → node parent f a d b ≡ node parent g a d c
 unfolding node
-node-same parent f g n a zero b same h = same b (omega arith)
-node-same parent f g n a (suc d) b same h =
+node-moved parent f g a zero b c same =
+    ap f (omega arith) ∙ same 0 (omega arith) ∙ ap g (omega arith)
+node-moved parent f g a (suc d) b c same =
     let half = 2 ^ d in
     let twice : 2 ^ suc d ≡ 2 * half = pow-succ' 2 d in
-    let spread : (b + 1) * 2 ^ suc d ≡ (2 * b + 1 + 1) * half =
-    ap (λ p. (b + 1) * p) twice ∙ sym (mul-assoc (b + 1) 2 half) ∙ ap (λ p. p * half) (omega arith) in
-    let less : (2 * b + 1) * half ≤ (2 * b + 1 + 1) * half = mul-le-mul-right half (omega arith) in
-    λ i. parent a (node-same parent f g n (suc a) d (2 * b) same (omega arith) i) (node-same parent f g n (suc a) d (2 * b + 1) same (omega arith) i)
+    let spread : (n : ℕ) → n * 2 ^ suc d ≡ (2 * n) * half = λ n. ap (λ p. n * p) twice ∙ sym (mul-assoc n 2 half) ∙ ap (λ p. p * half) (mul-comm n 2) in
+    let right : (n k : ℕ) → (2 * n + 1) * half + k ≡ n * 2 ^ suc d + (half + k) = λ n k. omega (arith, spread n, add-mul (2 * n) 1 half, one-mul half) in
+    let left : (n k : ℕ) → (2 * n) * half + k ≡ n * 2 ^ suc d + k = λ n k. omega (arith, spread n) in
+    λ i.
+    parent a
+    (node-moved parent f g (suc a) d (2 * b) (2 * c) (λ k h. ap f (left b k) ∙ same k (omega arith) ∙ sym (ap g (left c k))) i)
+    (node-moved parent f g (suc a) d (2 * b + 1) (2 * c + 1) (λ k h. ap f (right b k) ∙ same (half + k) (omega arith) ∙ sym (ap g (right c k))) i)
 
 pub climb-root : (parent : ℕ → List ℕ → List ℕ → List ℕ) (sibling : ℕ → List ℕ) (b : ℕ) (s : List ℕ) → climb parent sibling 0 b s ≡ s
 unfolding climb

@@ -8,6 +8,7 @@ use Rattle.strings.proofs.Laws.{numeral-injective}
 use Rattle.strings.proofs.number.Needs as need
 
 pub returns : need.returns
+unfolding numeral
 returns c =
     let is : c .to-le-bytes .result ≡ numeral (c .args .n) = search needs in
     record { value = is; known = λ m h e. numeral-injective m (c .args .n) h (search needs) (e ∙ is) }

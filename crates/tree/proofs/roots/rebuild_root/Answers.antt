@@ -1,12 +1,12 @@
 use mathlib.Core.List.{List}
 use mathlib.Core.Path.{_≡_, ap, _∙_}
 use Prim.Native.Nat.{ℕ, _+_, _-_, _*_, _^_, _≤_}
-use native.Mathlib.Nat.{one-mul}
+use native.Mathlib.Nat.{zero-mul}
 use native.Mathlib.Omega.{arith}
 use lib.Pow.{pow-mono}
 use Rattle.strings.specs.Strings.{stringAt}
 use Rattle.tree.specs.Nodes.{join, node, climb, oneTime}
-use Rattle.tree.proofs.Laws.{node-same}
+use Rattle.tree.proofs.Laws.{node-moved}
 use Rattle.tree.proofs.roots.rebuild_root.Given as given
 use Rattle.tree.proofs.roots.rebuild_root.Needs as need
 
@@ -32,8 +32,7 @@ returns g c =
     let parent : ℕ → List ℕ → List ℕ → List ℕ = join (g .H·TreeHash .pairs (c .args .key .now)) (c .args .masks .now) in
     let bottom : ℕ → List ℕ = oneTime (g .H·ChainHash .steps (c .args .key .now)) (g .C·Code .count) (g .C·Code .top) (g .C·Code .digits (c .args .stamp .now)) (stringAt row) in
     let held : ℕ → List ℕ = stringAt (c .one-time-strings-strings .result) in
-    let whole : (0 + 1) * 2 ^ levels ≤ 256 = omega (arith, one-mul (2 ^ levels), room g) in
     c .climb-path .ensures
     ∙ ap (λ n. climb parent (λ a. stringAt row (n + (h - a))) h (c .args .leaf) (c .fold-start .result)) (c .digit-count .ensures)
     ∙ ap (climb parent (λ a. stringAt row (g .C·Code .count + (h - a))) h (c .args .leaf))
-    (c .fold-start .ensures ∙ ap (λ n. node parent held h n 0) (c .level-count .ensures) ∙ node-same parent held bottom 256 h levels 0 (c .one-time-strings-strings .ensures) whole)
+    (c .fold-start .ensures ∙ ap (λ n. node parent held h n 0) (c .level-count .ensures) ∙ node-moved parent held bottom h levels 0 0 (λ k lt. c .one-time-strings-strings .ensures (0 * 2 ^ levels + k) (omega (arith, zero-mul (2 ^ levels), room g))))

@@ -1,0 +1,5 @@
+pub mod Blocks
+pub mod Cut
+pub mod Parts
+pub mod Rounds
+pub mod Words

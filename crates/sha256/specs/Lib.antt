@@ -1,0 +1,5 @@
+pub mod Compress
+pub mod Constants
+pub mod Digest
+pub mod Functions
+pub mod TreeHash
