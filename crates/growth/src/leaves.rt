@@ -19,3 +19,23 @@ pub fn chain_string<H: TreeHash>(origin: &Origin, leaf: u16, chain: usize, heigh
     let secret = H::pair(&origin.seed, &number(leaf as u128), &number(chain as u128));
     climb_chain::<H>(&origin.hash_key, &secret, height)
 }
+
+// Fills the row with the one-time strings of a leaf.
+fn fill_leaf<H: TreeHash, C: Code>(origin: &Origin, leaf: u16, row: &mut [u8; 4096])
+    ensures { λ _. ⌜ ((k : ℕ) → k < 256 → stringAt (now (row .exit)) k ≡ leafString (hashOf H·ChainHash H·TreeHash) (codeOf C·Code) (now (origin .entry)) leaf k) ⌝ }
+{
+    *row = [0; 4096];
+    for k in 0..C::digit_count() {
+        let top = chain_string::<H>(origin, leaf, k, C::top_digit());
+        put_string(row, k, &top);
+    }
+}
+
+// The node of a leaf. The work buffer is used up.
+pub fn leaf_node<H: TreeHash, C: Code>(origin: &Origin, leaf: u16, work: &mut [u8; 4096]) -> [u8; 16]
+    requires { ⌜ now origin .height ≤ 8 ⌝ }
+    ensures { λ r. ⌜ r ≡ nodeAt (hashOf H·ChainHash H·TreeHash) (codeOf C·Code) (now (origin .entry)) (now (origin .entry) .height) leaf ⌝ }
+{
+    fill_leaf::<H, C>(origin, leaf, work);
+    fold::<H>(&origin.hash_key, &origin.masks, origin.height as usize, C::level_count() as usize, work)
+}
