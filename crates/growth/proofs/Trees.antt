@@ -13,11 +13,11 @@ use lib.Pow.{pow-pos}
 use lib.Dec.{eqb, leb}
 use Rattle.std.proofs.shelf.Bits.{shr-shr, shl-shr, pow-add}
 use Rattle.std.proofs.shelf.Tests.{cond-true, cond-false, and-from, and-left, and-right, le-leb, lt-leb, eq-eqb, ne-eqb, cases-lt}
-use Rattle.strings.specs.Strings.{zeroString}
+use Rattle.strings.specs.Strings.{zeroString, stringAt, putString}
 use Rattle.tree.specs.Meaning.{Hash, Code}
 use Rattle.tree.specs.Nodes.{node}
 use Rattle.tree.proofs.Laws.{node-moved, node-parent}
-use Rattle.growth.specs.Grown.{leafString, bottom, parentAt, nodeAt, filled, Held, heldAt}
+use Rattle.growth.specs.Grown.{leafString, bottom, parentAt, nodeAt, filled, Held, heldAt, carry}
 use Rattle.growth.specs.declared.origin.Origin.{Origin}
 
 module _ (hash : Hash) (code : Code) (o : Origin) where
@@ -29,9 +29,9 @@ module _ (hash : Hash) (code : Code) (o : Origin) where
       let deep : l ≡ o .height + l - o .height = omega arith in
       node-moved (parentAt hash o) (leafString hash code o i) (bottom hash code o) (o .height) l 0 i
       (λ k h.
-          let first : 0 * size + k ≡ k = omega (arith, zero-mul size) in
-          ap (leafString hash code o i) first
-          ∙ (λ j. leafString hash code o (sym (digits-div i {m = size} {r = k} h) j) (sym (digits-mod i {m = size} {r = k} h) j)))
+      let first : 0 * size + k ≡ k = omega (arith, zero-mul size) in
+      ap (leafString hash code o i) first
+      ∙ (λ j. leafString hash code o (sym (digits-div i {m = size} {r = k} h) j) (sym (digits-mod i {m = size} {r = k} h) j)))
       ∙ ap (λ d. node (parentAt hash o) (bottom hash code o) (o .height) d i) deep
 
   -- a node above the leaves is the parent of the two below it
@@ -71,9 +71,9 @@ below-filled : (g m j k : ℕ) → Fills g m (j + (1 + k)) → filled (g + 1) j 
 below-filled g m j k e =
     let pairs = (m + 1) * 2 ^ k in
     let split : (m + 1) * 2 ^ (j + (1 + k)) ≡ (2 * pairs) * 2 ^ j =
-          ap (λ p. (m + 1) * p) (pow-add 2 j (1 + k) ∙ mul-comm (2 ^ j) (2 ^ (1 + k)))
-          ∙ sym (mul-assoc (m + 1) (2 ^ (1 + k)) (2 ^ j))
-          ∙ ap (λ p. p * 2 ^ j) (ap (λ p. (m + 1) * p) (pow-add 2 1 k) ∙ sym (mul-assoc (m + 1) 2 (2 ^ k)) ∙ ap (λ p. p * 2 ^ k) (mul-comm (m + 1) 2) ∙ mul-assoc 2 (m + 1) (2 ^ k)) in
+    ap (λ p. (m + 1) * p) (pow-add 2 j (1 + k) ∙ mul-comm (2 ^ j) (2 ^ (1 + k)))
+    ∙ sym (mul-assoc (m + 1) (2 ^ (1 + k)) (2 ^ j))
+    ∙ ap (λ p. p * 2 ^ j) (ap (λ p. (m + 1) * p) (pow-add 2 1 k) ∙ sym (mul-assoc (m + 1) 2 (2 ^ k)) ∙ ap (λ p. p * 2 ^ k) (mul-comm (m + 1) 2) ∙ mul-assoc 2 (m + 1) (2 ^ k)) in
     let is : filled (g + 1) j ≡ 2 * pairs = ap (λ n. n / 2 ^ j) (e ∙ split) ∙ shl-shr (2 * pairs) j in
     ap (λ n. n % 2) is ∙ omega arith
 
@@ -99,16 +99,16 @@ module _ (hash : Hash) (code : Code) (o : Origin) (g m level : ℕ) (within : le
       (⊎-elim
       (λ (far : o .height < a). and-left _ _ (lt-leb a (o .height) far))
       (λ (near : a ≤ o .height).
-          let rest : o .height - level ≡ (o .height - a) + (1 + (a - level - 1)) = omega arith in
-          let none = below-filled g m (o .height - a) (a - level - 1) (fills ∙ ap (λ j. (m + 1) * 2 ^ j) rest) in
-          and-right (leb a (o .height)) _ (ne-eqb (filled (g + 1) (o .height - a) % 2) 1 (λ e. omega arith)))
+      let rest : o .height - level ≡ (o .height - a) + (1 + (a - level - 1)) = omega arith in
+      let none = below-filled g m (o .height - a) (a - level - 1) (fills ∙ ap (λ j. (m + 1) * 2 ^ j) rest) in
+      and-right (leb a (o .height)) _ (ne-eqb (filled (g + 1) (o .height - a) % 2) 1 (λ e. omega arith)))
       (cases-lt (o .height) a))
 
   pub held-above : m % 2 ≡ 0 → (a : ℕ) → a < level → heldAt hash code o (g + 1) a ≡ heldAt hash code o g a
   held-above even a h =
       let rest : o .height - a ≡ (o .height - level) + (1 + (level - a - 1)) = omega arith in
       let same : filled (g + 1) (o .height - a) ≡ filled g (o .height - a) =
-            ap (filled (g + 1)) rest ∙ above-filled g m (o .height - level) (level - a - 1) fills even ∙ ap (filled g) (sym rest) in
+      ap (filled (g + 1)) rest ∙ above-filled g m (o .height - level) (level - a - 1) fills even ∙ ap (filled g) (sym rest) in
       ap (λ n. cond (leb a (o .height) && eqb (n % 2) 1) (nodeAt hash code o a (n - 1)) zeroString) same
 
   -- an odd m is not at the root's level
@@ -116,10 +116,10 @@ module _ (hash : Hash) (code : Code) (o : Origin) (g m level : ℕ) (within : le
   not-root room odd =
       ⊎-elim (λ (some : 0 < level). some)
       (λ (none : level ≤ 0).
-          let top : o .height - level ≡ o .height = omega arith in
-          let all = fills ∙ ap (λ j. (m + 1) * 2 ^ j) top in
-          let two : 2 ≤ m + 1 = omega arith in
-          absurd (omega (arith, mul-le-mul-right (2 ^ o .height) two, pow-pos (o .height))))
+      let top : o .height - level ≡ o .height = omega arith in
+      let all = fills ∙ ap (λ j. (m + 1) * 2 ^ j) top in
+      let two : 2 ≤ m + 1 = omega arith in
+      absurd (omega (arith, mul-le-mul-right (2 ^ o .height) two, pow-pos (o .height))))
       (cases-lt 0 level)
 
   -- an odd m joins, and goes on a level above
@@ -131,3 +131,17 @@ module _ (hash : Hash) (code : Code) (o : Origin) (g m level : ℕ) (within : le
       ∙ ap (λ n. n * p) (let e : m + 1 ≡ (m / 2 + 1) * 2 = omega arith in e)
       ∙ mul-assoc (m / 2 + 1) 2 p
       ∙ ap (λ q. (m / 2 + 1) * q) (sym (pow-add 2 1 (o .height - level)) ∙ ap (λ j. 2 ^ j) (sym up))
+
+-- one turn of a carry, and its end
+pub carry-odd : (parent : ℕ → List ℕ → List ℕ → List ℕ) (level b : ℕ) (s nodes : List ℕ) → 0 < level → b % 2 ≡ 1 → carry parent level b s nodes ≡ carry parent (level - 1) (b / 2) (parent (level - 1) (stringAt nodes level) s) (putString nodes level zeroString)
+unfolding carry
+carry-odd parent zero b s nodes some odd = absurd (omega arith)
+carry-odd parent (suc a) b s nodes some odd =
+    let back : a ≡ suc a - 1 = omega arith in
+    cond-true (eqb (b % 2) 1) _ _ (eq-eqb (b % 2) 1 odd)
+    ∙ ap (λ n. carry parent n (b / 2) (parent n (stringAt nodes (suc a)) s) (putString nodes (suc a) zeroString)) back
+
+pub carry-even : (parent : ℕ → List ℕ → List ℕ → List ℕ) (level b : ℕ) (s nodes : List ℕ) → (b % 2 ≡ 1 → ⊥) → carry parent level b s nodes ≡ putString nodes level s
+unfolding carry
+carry-even parent zero b s nodes even = refl
+carry-even parent (suc a) b s nodes even = cond-false (eqb (b % 2) 1) _ _ (ne-eqb (b % 2) 1 even)

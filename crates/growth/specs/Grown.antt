@@ -2,9 +2,10 @@
 -- Assumes nothing.
 use mathlib.Core.Bool.{Bool, cond, _&&_}
 use mathlib.Core.List.{List}
-use Prim.Native.Nat.{ℕ, _+_, _-_, _/_, _%_, _^_}
+use mathlib.Core.Path.{_≡_}
+use Prim.Native.Nat.{ℕ, zero, suc, _+_, _-_, _/_, _%_, _^_, _<_}
 use lib.Dec.{eqb, leb}
-use Rattle.strings.specs.Strings.{numeral, zeroString}
+use Rattle.strings.specs.Strings.{numeral, zeroString, stringAt, putString}
 use Rattle.tree.specs.Meaning.{Hash, Code}
 use Rattle.tree.specs.Nodes.{raise, join, node, oneTime}
 use Rattle.growth.specs.declared.origin.Origin.{Origin}
@@ -45,3 +46,17 @@ Held h g a = leb a h && eqb (filled g (h - a) % 2) 1
 -- complete subtrees, and else the zero string
 abbrev pub heldAt : Hash → Code → Origin → ℕ → ℕ → List ℕ
 heldAt hash code o g a = cond (Held (o .height) g a) (nodeAt hash code o a (filled g (o .height - a) - 1)) zeroString
+
+-- all levels hold what they should after g leaves, and nothing else; string a of the row of nodes is for level a
+abbrev pub Holds : Hash → Code → Origin → ℕ → List ℕ → Type 0
+Holds hash code o g nodes = (a : ℕ) → a < 9 → stringAt nodes a ≡ heldAt hash code o g a
+
+-- node s comes in at level a, position b: where b is odd it joins what is held there and goes on above; else it is held there
+unfoldable pub carry : (ℕ → List ℕ → List ℕ → List ℕ) → ℕ → ℕ → List ℕ → List ℕ → List ℕ
+carry parent zero b s nodes = putString nodes 0 s
+carry parent (suc a) b s nodes =
+    cond (eqb (b % 2) 1) (carry parent a (b / 2) (parent a (stringAt nodes (suc a)) s) (putString nodes (suc a) zeroString)) (putString nodes (suc a) s)
+
+-- the row of nodes with leaf number g added
+abbrev pub withLeaf : Hash → Code → Origin → ℕ → List ℕ → List ℕ
+withLeaf hash code o g nodes = carry (parentAt hash o) (o .height) g (nodeAt hash code o (o .height) g) nodes

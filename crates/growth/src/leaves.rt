@@ -32,10 +32,20 @@ fn fill_leaf<H: TreeHash, C: Code>(origin: &Origin, leaf: u16, row: &mut [u8; 40
 }
 
 // The node of a leaf. The work buffer is used up.
-pub fn leaf_node<H: TreeHash, C: Code>(origin: &Origin, leaf: u16, work: &mut [u8; 4096]) -> [u8; 16]
+pub fn leaf_node<H: TreeHash, C: Code>(
+    origin: &Origin,
+    leaf: u16,
+    work: &mut [u8; 4096],
+) -> [u8; 16]
     requires { ⌜ now origin .height ≤ 8 ⌝ }
     ensures { λ r. ⌜ r ≡ nodeAt (hashOf H·ChainHash H·TreeHash) (codeOf C·Code) (now (origin .entry)) (now (origin .entry) .height) leaf ⌝ }
 {
     fill_leaf::<H, C>(origin, leaf, work);
-    fold::<H>(&origin.hash_key, &origin.masks, origin.height as usize, C::level_count() as usize, work)
+    fold::<H>(
+        &origin.hash_key,
+        &origin.masks,
+        origin.height as usize,
+        C::level_count() as usize,
+        work,
+    )
 }

@@ -1,8 +1,7 @@
 // The nodes that are held while a tree is grown.
 ghost use mathlib.Core.Path.{_≡_};
-ghost use Prim.Native.Nat.{ℕ, _+_, _^_, _≤_, _<_};
-ghost use Rattle.growth.specs.Grown.{heldAt};
-ghost use Rattle.strings.specs.Strings.{stringAt};
+ghost use Prim.Native.Nat.{_+_, _^_, _≤_, _<_};
+ghost use Rattle.growth.specs.Grown.{Holds, withLeaf};
 ghost use Rattle.tree.specs.Meaning.{hashOf, codeOf};
 use crate::Origin;
 use crate::leaves::leaf_node;
@@ -15,11 +14,16 @@ use tree::nodes::parent;
 
 // Adds leaf number `grown` to a tree of which the leaves before it are in. String a of `nodes` is what is held at
 // level a; nodes over full subtrees of equal size join. The work buffer is used up.
-pub fn add_leaf<H: TreeHash, C: Code>(origin: &Origin, grown: u16, nodes: &mut [u8; 144], work: &mut [u8; 4096])
+pub fn add_leaf<H: TreeHash, C: Code>(
+    origin: &Origin,
+    grown: u16,
+    nodes: &mut [u8; 144],
+    work: &mut [u8; 4096],
+)
     requires tall { ⌜ now origin .height ≤ 8 ⌝ }
     requires room { ⌜ grown < 2 ^ now origin .height ⌝ }
-    requires held { ⌜ ((a : ℕ) → a < 9 → stringAt (now nodes) a ≡ heldAt (hashOf H·ChainHash H·TreeHash) (codeOf C·Code) (now origin) grown a) ⌝ }
-    ensures { λ _. ⌜ ((a : ℕ) → a < 9 → stringAt (now (nodes .exit)) a ≡ heldAt (hashOf H·ChainHash H·TreeHash) (codeOf C·Code) (now (origin .entry)) (grown + 1) a) ⌝ }
+    ensures after { λ _. ⌜ now (nodes .exit) ≡ withLeaf (hashOf H·ChainHash H·TreeHash) (codeOf C·Code) (now (origin .entry)) grown (now (nodes .entry)) ⌝ }
+    ensures held { λ _. ⌜ (Holds (hashOf H·ChainHash H·TreeHash) (codeOf C·Code) (now (origin .entry)) grown (now (nodes .entry)) → Holds (hashOf H·ChainHash H·TreeHash) (codeOf C·Code) (now (origin .entry)) (grown + 1) (now (nodes .exit))) ⌝ }
 {
     let mut node = leaf_node::<H, C>(origin, grown, work);
     let mut level = origin.height as usize;

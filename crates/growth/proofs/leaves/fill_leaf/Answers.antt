@@ -15,11 +15,10 @@ pub loop-k-again : need.loop-k-again
 loop-k-again g c =
     let step = g .H·ChainHash .steps (c .args .origin .now .«hash_key») in
     let shown = secret (hashOf (g .H·ChainHash) (g .H·TreeHash)) (c .args .origin .now) (c .args .leaf) in
-    let height : c .top-digit .result ≡ g .C·Code .top - 0 = c .top-digit .ensures ∙ omega arith in
-    (
+    let height : c .top-digit .result ≡ g .C·Code .top - 0 = c .top-digit .ensures ∙ omega arith in (
       omega arith,
       one-time-more step (g .C·Code .top) (λ j. 0) shown 256 (c .loop-k .k) (c .loop-k .row) (c .put-string .last .bytes)
-      (c .loop-k .inv .1)
-      (c .put-string .ensures .here ∙ c .chain-string-top .ensures ∙ ap (λ e. raise step e (shown (c .loop-k .k))) height)
-      (c .put-string .ensures .others),
+          (c .loop-k .inv .1)
+          (c .put-string .ensures .here ∙ c .chain-string-top .ensures ∙ ap (λ e. raise step e (shown (c .loop-k .k))) height)
+          (c .put-string .ensures .others),
     )
