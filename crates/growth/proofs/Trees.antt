@@ -5,19 +5,21 @@ use mathlib.Core.Bool.{Bool, true, false, cond, _&&_}
 use mathlib.Core.List.{List}
 use mathlib.Core.Logic.{⊎-elim}
 use Prim.Native.Nat.{ℕ, zero, suc, _+_, _-_, _*_, _/_, _%_, _^_, _<_, _≤_}
-use native.Mathlib.Nat.{zero-mul, add-mul, one-mul, mul-assoc, mul-comm, mul-le-mul-right}
+use native.Mathlib.Nat.{zero-mul, add-mul, one-mul, mul-assoc, mul-comm, mul-le-mul-right, zero-div, div-self}
 use native.Mathlib.Numerals.{add-one}
 use native.Mathlib.Omega.{arith}
 use lib.Arith.{digits-div, digits-mod}
 use lib.Pow.{pow-pos}
 use lib.Dec.{eqb, leb}
+use lib.ListN.{replicate}
+use Rattle.strings.proofs.Laws.{stringAt-zeros}
 use Rattle.std.proofs.shelf.Bits.{shr-shr, shl-shr, pow-add}
 use Rattle.std.proofs.shelf.Tests.{cond-true, cond-false, and-from, and-left, and-right, le-leb, lt-leb, eq-eqb, ne-eqb, cases-lt}
 use Rattle.strings.specs.Strings.{zeroString, stringAt, putString}
 use Rattle.tree.specs.Meaning.{Hash, Code}
 use Rattle.tree.specs.Nodes.{node}
 use Rattle.tree.proofs.Laws.{node-moved, node-parent}
-use Rattle.growth.specs.Grown.{leafString, bottom, parentAt, nodeAt, filled, Held, heldAt, carry}
+use Rattle.growth.specs.Grown.{leafString, bottom, parentAt, nodeAt, filled, Held, heldAt, Holds, carry}
 use Rattle.growth.specs.declared.origin.Origin.{Origin}
 
 module _ (hash : Hash) (code : Code) (o : Origin) where
@@ -145,3 +147,19 @@ pub carry-even : (parent : ℕ → List ℕ → List ℕ → List ℕ) (level b 
 unfolding carry
 carry-even parent zero b s nodes even = refl
 carry-even parent (suc a) b s nodes even = cond-false (eqb (b % 2) 1) _ _ (ne-eqb (b % 2) 1 even)
+
+-- with no leaf in, nothing is held
+pub holds-none : (hash : Hash) (code : Code) (o : Origin) → Holds hash code o 0 (replicate 144 0)
+holds-none hash code o a h =
+    let none : filled 0 (o .height - a) % 2 ≡ 0 = ap (λ n. n % 2) (zero-div (2 ^ (o .height - a))) in
+    stringAt-zeros 144 a (omega arith)
+    ∙ sym (cond-false (Held (o .height) 0 a) _ _ (and-right (leb a (o .height)) _ (ne-eqb (filled 0 (o .height - a) % 2) 1 (λ e. omega arith))))
+
+-- with all leaves in, the root is held
+pub holds-root : (hash : Hash) (code : Code) (o : Origin) (nodes : List ℕ) → Holds hash code o (2 ^ o .height) nodes → stringAt nodes 0 ≡ nodeAt hash code o 0 0
+holds-root hash code o nodes held =
+    let whole : filled (2 ^ o .height) (o .height - 0) ≡ 1 =
+    ap (λ j. 2 ^ o .height / 2 ^ j) (omega arith) ∙ div-self (pow-pos (o .height)) in
+    held 0 (omega arith)
+    ∙ cond-true (Held (o .height) (2 ^ o .height) 0) _ _ (and-from _ _ (le-leb 0 (o .height) (omega arith)) (eq-eqb (filled (2 ^ o .height) (o .height - 0) % 2) 1 (ap (λ n. n % 2) whole)))
+    ∙ ap (λ n. nodeAt hash code o 0 (n - 1)) whole

@@ -6,11 +6,8 @@ use Prim.Native.Nat.{ℕ, _+_, _-_, _*_, _<_, _≤_}
 use native.Mathlib.Omega.{arith}
 use lib.ListN.{length, getD, take, drop, set, replicate}
 use Rattle.std.specs.Joined.{joined}
+use Rattle.strings.proofs.Laws.{part-more}
 use Rattle.std.proofs.shelf.Lists.{append-assoc, take-more, take-more-set, take-append-drop, take-take, drop-take, drop-drop, drop-set-lt, drop-replicate, take-replicate, joined-more}
-
--- the first bytes p, and a part that is written after them
-pub part-more : (b b′ p part : List ℕ) (at e : ℕ) → take (at + length part) b′ ≡ take at b ++ part → take at b ≡ p → at + length part ≡ e → take e b′ ≡ p ++ part
-part-more b b′ p part at e is before end = ap (λ k. take k b′) (sym end) ∙ is ∙ ap (λ q. q ++ part) before
 
 -- a tag of 4 bytes and two strings, written one after another
 pub three-parts : (b₁ b₂ b₃ tag key s : List ℕ) → length key ≡ 16 → length s ≡ 16 → take 4 b₁ ≡ tag → take (4 + length key) b₂ ≡ take 4 b₁ ++ key → take (20 + length s) b₃ ≡ take 20 b₂ ++ s → take 36 b₃ ≡ tag ++ (key ++ s)

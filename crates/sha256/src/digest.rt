@@ -4,10 +4,10 @@ ghost use mathlib.Core.List.{_++_};
 ghost use Prim.Native.Nat.{_+_, _*_, _/_, _%_, _<_};
 ghost use lib.ListN.{length, take};
 ghost use Rattle.sha256.specs.Digest as spec;
-use crate::buffer::put;
 use crate::compress::compress;
 use crate::constants::INITIAL;
 use crate::state::State;
+use strings::put;
 
 const BLOCK: usize = 64;
 

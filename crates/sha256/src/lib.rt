@@ -1,5 +1,4 @@
 // SHA-256 (FIPS 180-4), and the tree hash that is made of it.
-mod buffer;
 mod compress;
 mod constants;
 mod digest;

@@ -2,10 +2,10 @@
 ghost use mathlib.Core.Path.{_≡_};
 ghost use lib.ListN.{take};
 ghost use Rattle.sha256.specs.TreeHash.{shaStep, shaPair};
-use crate::buffer::put;
 use crate::sha256;
 use hashes::ChainHash;
 use hashes::TreeHash;
+use strings::put;
 
 // What comes before the strings, so that no input of a step is one of a pair.
 const STEP: [u8; 4] = *b"STEP";

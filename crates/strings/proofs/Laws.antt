@@ -12,7 +12,7 @@ use lib.Arith.{mod-mul}
 use lib.ListN.{length, getD, take, drop, replicate}
 use Rattle.std.specs.Iters.{counting}
 use Rattle.std.specs.shelf.Lists.{All}
-use Rattle.std.proofs.shelf.Lists.{length-append, length-take, length-drop, length-take-le, take-at, drop-at, take-take, take-append-le, drop-append-le, drop-drop, drop-take, append-assoc, same-from-push, drop-replicate, take-replicate}
+use Rattle.std.proofs.shelf.Lists.{take-append-drop, length-append, length-take, length-drop, length-take-le, take-at, drop-at, take-take, take-append-le, drop-append-le, drop-drop, drop-take, append-assoc, same-from-push, drop-replicate, take-replicate}
 use Rattle.std.proofs.shelf.Tests.{cases-lt}
 use Rattle.std.proofs.shelf.Elements.{all-take, all-drop, all-from-getD}
 use Rattle.std.proofs.shelf.Counted.{length-map-counting, map-counting-more}
@@ -146,3 +146,27 @@ str-from s long small = (long, all-from-getD (λ b. b < 256) s 0 (λ i h. small 
 -- each string of a row of zeros is the zero string
 pub stringAt-zeros : (n i : ℕ) → 16 * i + 16 ≤ n → stringAt (replicate n 0) i ≡ zeroString
 stringAt-zeros n i h = ap (take 16) (drop-replicate (16 * i) n 0) ∙ take-replicate 16 (n - 16 * i) 0 (omega arith)
+
+-- the first bytes p, and a part that is written after them
+pub part-more : (b b′ p part : List ℕ) (at e : ℕ) → take (at + length part) b′ ≡ take at b ++ part → take at b ≡ p → at + length part ≡ e → take e b′ ≡ p ++ part
+part-more b b′ p part at e is before end = ap (λ k. take k b′) (sym end) ∙ is ∙ ap (λ q. q ++ part) before
+
+-- what `put` leaves
+abbrev pub Put : List ℕ → List ℕ → ℕ → List ℕ → Type 0
+Put b b′ at part = (take (at + length part) b′ ≡ take at b ++ part) × (drop (at + length part) b′ ≡ drop (at + length part) b)
+
+-- parts written one after another: b holds what p says at its front, and what b₀ held past that
+abbrev pub Written : List ℕ → List ℕ → List ℕ → Type 0
+Written b₀ b p = (b ≡ p ++ drop (length p) b₀) × (length p ≤ length b₀)
+
+pub written-more : (b₀ b b′ p part : List ℕ) (at : ℕ) → Written b₀ b p → length p ≡ at → at + length part ≤ length b₀ → take (at + length part) b′ ≡ take at b ++ part → drop (at + length part) b′ ≡ drop (at + length part) b → Written b₀ b′ (p ++ part)
+written-more b₀ b b′ p part at w here room front back =
+    let n = length part in
+    let long = length-append p part in
+    let head : take at b ≡ p = ap (take at) (w .0) ∙ take-at p (drop (length p) b₀) at here in
+    let rest : drop at b ≡ drop (length p) b₀ = ap (drop at) (w .0) ∙ drop-at p (drop (length p) b₀) at here in
+    let tail : drop (at + n) b ≡ drop (length (p ++ part)) b₀ =
+    sym (drop-drop n at b) ∙ ap (drop n) rest ∙ drop-drop n (length p) b₀ ∙ ap (λ k. drop k b₀) (sym long) in (
+      sym (take-append-drop (at + n) b′) ∙ (λ i. (front ∙ ap (λ q. q ++ part) head) i ++ (back ∙ tail) i),
+      omega arith,
+    )

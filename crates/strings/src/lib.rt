@@ -1,7 +1,8 @@
 // Strings of 16 bytes: exclusive or, comparison, numbers as strings, and rows of strings in a buffer.
+ghost use mathlib.Core.List.{_++_};
 ghost use mathlib.Core.Path.{_≡_};
 ghost use Prim.Native.Nat.{ℕ, _+_, _*_, _^_, _<_, _≤_};
-ghost use lib.ListN.{length};
+ghost use lib.ListN.{length, take, drop};
 ghost use Rattle.std.specs.Orderings.{Decides};
 ghost use Rattle.std.specs.shelf.Text.{sameBytes};
 ghost use Rattle.strings.specs.Strings.{xor, numeral, stringAt, putString};
@@ -55,4 +56,13 @@ pub fn put_string(bytes: &mut [u8], i: usize, string: &[u8; 16])
     ensures others { λ _. ⌜ ((k : ℕ) → (k ≡ i → ⊥) → stringAt (now (bytes .exit)) k ≡ stringAt (now (bytes .entry)) k) ⌝ }
 {
     bytes[16 * i..16 * i + 16].copy_from_slice(string);
+}
+
+// Writes `part` into `bytes` from `at` on; the bytes before and after it stay.
+pub fn put(bytes: &mut [u8], at: usize, part: &[u8])
+    requires { ⌜ at + length (now part) ≤ length (now bytes) ⌝ }
+    ensures front { λ _. ⌜ take (at + length (now (part .entry))) (now (bytes .exit)) ≡ take at (now (bytes .entry)) ++ now (part .entry) ⌝ }
+    ensures back { λ _. ⌜ drop (at + length (now (part .entry))) (now (bytes .exit)) ≡ drop (at + length (now (part .entry))) (now (bytes .entry)) ⌝ }
+{
+    bytes[at..at + part.len()].copy_from_slice(part);
 }

@@ -117,7 +117,7 @@ module _ (hash code levels h : ℕ) (hashKey masks root : List ℕ) (few : level
   rest-length : length (hashKey ++ (masks ++ root)) ≡ 32 + 32 * (h + levels)
   rest-length = length-append hashKey (masks ++ root) ∙ ap (λ n. length hashKey + n) (length-append masks root) ∙ omega (arith, parts .keyed, parts .masked, parts .rooted)
 
-  written-opens : Opens hash code levels written
+  pub written-opens : Opens hash code levels written
   written-opens =
       let long = rest-length in
       let tall = parts .tall in

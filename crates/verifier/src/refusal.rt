@@ -4,6 +4,12 @@ ghost use Rattle.verifier.specs.Refusals.{refusalNumber};
 
 #[derive(Clone, Copy, PartialEq, Debug)]
 pub enum Refusal {
+    // A plan's height outside 1 to 8.
+    Plan = 1,
+    // All leaves of a key are in.
+    Grown = 2,
+    // An output that is shorter than the record.
+    Output = 4,
     // Fewer than 10 bytes, or a length field that differs from the number of bytes given.
     Length = 6,
     // Another kind of record than the wanted one.

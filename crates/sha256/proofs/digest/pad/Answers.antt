@@ -6,7 +6,8 @@ use native.Mathlib.Nat.{zero-add}
 use native.Mathlib.Omega.{arith}
 use lib.ListN.{length, take, drop, replicate}
 use Rattle.sha256.specs.Digest.{bigEndian, zeros}
-use Rattle.sha256.proofs.Parts.{part-more, padded-buffer}
+use Rattle.strings.proofs.Laws.{part-more}
+use Rattle.sha256.proofs.Parts.{padded-buffer}
 use Rattle.sha256.proofs.digest.pad.Needs as need
 
 pub returns : need.returns

@@ -7,7 +7,8 @@ use lib.Chars.{codes}
 use lib.ListN.{length, take}
 use Rattle.std.proofs.shelf.Lists.{take-all, append-assoc}
 use Rattle.sha256.specs.Digest.{sha256Of}
-use Rattle.sha256.proofs.Parts.{part-more, three-parts}
+use Rattle.strings.proofs.Laws.{part-more}
+use Rattle.sha256.proofs.Parts.{three-parts}
 use Rattle.sha256.proofs.tree_hash.Sha256TreeHash.pair.Needs as need
 
 pub returns : need.returns

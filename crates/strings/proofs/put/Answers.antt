@@ -1,6 +1,6 @@
 use borrow.Author.Needs.{needs}
 use Rattle.std.proofs.shelf.Parts.{overwrites}
-use Rattle.sha256.proofs.buffer.put.Needs as need
+use Rattle.strings.proofs.put.Needs as need
 
 pub returns : need.returns
 returns c = record { front = search (needs, overwrites); back = search (needs, overwrites) }

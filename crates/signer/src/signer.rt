@@ -1,0 +1,23 @@
+// A key in service.
+ghost use mathlib.Core.Path.{_≡_};
+ghost use Prim.Native.Nat.{_^_, _≤_};
+ghost use lib.ListN.{length};
+use crate::ledger::Ledger;
+use growth::Origin;
+use std::marker::PhantomData;
+
+mod calls;
+
+// Only `finish` makes one.
+pub struct Signer<H, C> {
+    pub(crate) origin: Origin,
+    pub(crate) root: [u8; 16],
+    // The next leaf to be spent.
+    pub(crate) next: u16,
+    pub(crate) ledger: Ledger,
+    pub(crate) hash: PhantomData<H>,
+    pub(crate) code: PhantomData<C>,
+    ghost tall: { (1 ≤ origin .height) × (origin .height ≤ 8) },
+    ghost within: { next ≤ 2 ^ origin .height },
+    ghost sized: { (length (origin .«hash_key») ≡ 16) × (length (origin .masks) ≡ 512) × (length root ≡ 16) },
+}
