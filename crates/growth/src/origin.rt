@@ -1,6 +1,7 @@
 // What a tree is grown from.
 
 // A seed, a hash key, the masks of all levels and the height: the tree has 2^height leaves.
+#[derive(Drop)]
 pub struct Origin {
     pub seed: [u8; 16],
     pub hash_key: [u8; 16],

@@ -4,6 +4,7 @@ ghost use lib.ListN.{replicate};
 ghost use Rattle.std.specs.declared.option.Option.the-variants.{None};
 
 // A row for each leaf: empty, or the stamp that was signed.
+#[derive(Drop)]
 pub struct Ledger {
     rows: [Option<[u8; 16]>; 256],
 }

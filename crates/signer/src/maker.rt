@@ -6,6 +6,7 @@ use std::marker::PhantomData;
 mod calls;
 
 // Only `begin` makes one. Its hash and code are fixed by its type.
+#[derive(Drop)]
 pub struct Maker<H, C> {
     origin: Origin,
     // How many leaves are in.

@@ -9,6 +9,7 @@ use std::marker::PhantomData;
 mod calls;
 
 // Only `finish` makes one.
+#[derive(Drop)]
 pub struct Signer<H, C> {
     pub(crate) origin: Origin,
     pub(crate) root: [u8; 16],
