@@ -71,13 +71,7 @@ pub extern "C" fn sha256_steps(key: &[u8], string: &[u8], turns: u8, place: usiz
 }
 
 #[unsafe(no_mangle)]
-pub extern "C" fn sha256_pairs(
-    key: &[u8],
-    left: &[u8],
-    right: &[u8],
-    turns: u8,
-    place: usize,
-) -> u8
+pub extern "C" fn sha256_pairs(key: &[u8], left: &[u8], right: &[u8], turns: u8, place: usize) -> u8
     ensures answered { λ r. ⌜ (length (now (key .entry)) ≡ 16 → length (now (left .entry)) ≡ 16 → length (now (right .entry)) ≡ 16 → r ≡ getD (raise (λ s. shaPair (now (key .entry)) s (now (right .entry))) turns (now (left .entry))) place 0) ⌝ }
     ensures refused { λ r. ⌜ ((length (now (key .entry)) ≡ 16 → length (now (left .entry)) ≡ 16 → length (now (right .entry)) ≡ 16 → ⊥) → r ≡ 0) ⌝ }
 {
@@ -93,13 +87,7 @@ pub extern "C" fn aes128_steps(key: &[u8], string: &[u8], turns: u8, place: usiz
 }
 
 #[unsafe(no_mangle)]
-pub extern "C" fn aes128_pairs(
-    key: &[u8],
-    left: &[u8],
-    right: &[u8],
-    turns: u8,
-    place: usize,
-) -> u8
+pub extern "C" fn aes128_pairs(key: &[u8], left: &[u8], right: &[u8], turns: u8, place: usize) -> u8
     ensures answered { λ r. ⌜ (length (now (key .entry)) ≡ 16 → length (now (left .entry)) ≡ 16 → length (now (right .entry)) ≡ 16 → r ≡ getD (raise (λ s. aesPair (now (key .entry)) s (now (right .entry))) turns (now (left .entry))) place 0) ⌝ }
     ensures refused { λ r. ⌜ ((length (now (key .entry)) ≡ 16 → length (now (left .entry)) ≡ 16 → length (now (right .entry)) ≡ 16 → ⊥) → r ≡ 0) ⌝ }
 {

@@ -9,7 +9,7 @@ returns g c =
     let place = c .args .place in
     record {
       answered =
-        λ k s. c .byte-at .ensures
-        ∙ ap (λ t. getD t place 0) (c .climb-chain-last .ensures ∙ (λ i. raise (g .H·ChainHash .steps ((c .string-at .ensures ∙ whole _ k) i)) (c .args .turns) ((c .string-at-2 .ensures ∙ whole _ s) i)));
+          λ k s. c .byte-at .ensures
+          ∙ ap (λ t. getD t place 0) (c .climb-chain-last .ensures ∙ (λ i. raise (g .H·ChainHash .steps ((c .string-at .ensures ∙ whole _ k) i)) (c .args .turns) ((c .string-at-2 .ensures ∙ whole _ s) i)));
       refused = λ no. absurd (no (c .if-key-ne16 .left) (c .if-string-ne16 .left));
     }
