@@ -5,6 +5,7 @@ mod key_schedule;
 mod rounds;
 mod sbox;
 mod tree_hash;
+mod twice;
 mod words;
 
 pub use cipher::encrypt;

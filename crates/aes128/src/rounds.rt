@@ -1,8 +1,11 @@
 // The steps of a round.
 ghost use mathlib.Core.Path.{_≡_};
-ghost use Rattle.aes128.specs.Field.{timesX};
+ghost use Rattle.aes128.specs.Field.{sub};
 ghost use Rattle.aes128.specs.State.{subBytes, shiftRows, mixed, mixColumns, fullRound, finalRound};
 ghost use Rattle.aes128.specs.Pieces.{mixedColumn};
+ghost use Rattle.aes128.specs.Schedule.{subWord};
+use crate::sbox::sub_byte;
+use crate::twice::sub_twice;
 use crate::words::column_of;
 use crate::words::from_columns;
 use crate::words::sub_word;
@@ -31,21 +34,16 @@ fn shift_rows(s: &[u8; 16]) -> [u8; 16]
     )
 }
 
-fn times_x(a: u8) -> u8
-    ensures { λ r. ⌜ r ≡ timesX a ⌝ }
-{
-    (a << 1) ^ ((a >> 7) * 0x1b)
-}
-
-// Twice a, three times b, c and d.
+// Twice a, three times b, c and d, each byte substituted.
 fn mix(a: u8, b: u8, c: u8, d: u8) -> u8
-    ensures { λ r. ⌜ r ≡ mixed a b c d ⌝ }
+    ensures { λ r. ⌜ r ≡ mixed (sub a) (sub b) (sub c) (sub d) ⌝ }
 {
-    times_x(a) ^ (times_x(b) ^ b) ^ c ^ d
+    sub_twice(a) ^ (sub_twice(b) ^ sub_byte(b)) ^ sub_byte(c) ^ sub_byte(d)
 }
 
+// A column, substituted and mixed.
 fn mix_column(w: &[u8; 4]) -> [u8; 4]
-    ensures { λ r. ⌜ r ≡ mixedColumn (now (w .entry)) ⌝ }
+    ensures { λ r. ⌜ r ≡ mixedColumn (subWord (now (w .entry))) ⌝ }
 {
     [
         mix(w[0], w[1], w[2], w[3]),
@@ -55,8 +53,9 @@ fn mix_column(w: &[u8; 4]) -> [u8; 4]
     ]
 }
 
+// Each column, substituted and mixed.
 fn mix_columns(state: &[u8; 16]) -> [u8; 16]
-    ensures { λ r. ⌜ r ≡ mixColumns (now (state .entry)) ⌝ }
+    ensures { λ r. ⌜ r ≡ mixColumns (subBytes (now (state .entry))) ⌝ }
 {
     from_columns(
         &mix_column(&column_of(state, 0)),
@@ -66,10 +65,11 @@ fn mix_columns(state: &[u8; 16]) -> [u8; 16]
     )
 }
 
+// Bytes may be substituted before or after the rows are shifted.
 pub fn full_round(state: &[u8; 16], round_key: &[u8; 16]) -> [u8; 16]
     ensures { λ r. ⌜ r ≡ fullRound (now (state .entry)) (now («round_key» .entry)) ⌝ }
 {
-    mask(&mix_columns(&shift_rows(&sub_bytes(state))), round_key)
+    mask(&mix_columns(&shift_rows(state)), round_key)
 }
 
 // The last round mixes no columns.
