@@ -1,18 +1,13 @@
 -- Strings that are given byte by byte.
 -- Assumes nothing.
-use mathlib.Core.Path.{_≡_, refl, sym, _∙_}
+use mathlib.Core.Path.{refl}
 use mathlib.Core.List.{List, [], _∷_, map}
 use Prim.Native.Nat.{ℕ, zero, suc, _+_, _/_, _%_, _<_}
 use native.Mathlib.Nat.{mod-lt}
 use native.Mathlib.Omega.{arith}
-use lib.Bits.{bitXor, xor-lt}
-use lib.ListN.{length, getD}
+use lib.Bits.{xor-lt}
+use lib.ListN.{getD}
 use Rattle.std.specs.Iters.{counting}
-use Rattle.std.specs.shelf.Lists.{All}
-use Rattle.std.proofs.shelf.Elements.{all-getD, all-map}
-use Rattle.std.proofs.shelf.Lists.{getD-past}
-use Rattle.std.proofs.shelf.Tests.{cases-lt}
-use mathlib.Core.Logic.{⊎-elim}
 use Rattle.strings.specs.Strings.{Bytes, Str}
 use Rattle.hashes.specs.Practice.{bytewise, stepByte, pairByte, practiceStep, practicePair}
 

@@ -4,11 +4,11 @@ ghost use mathlib.Core.Path.{_≡_};
 ghost use Prim.Native.Nat.{ℕ, _<_};
 ghost use lib.ListN.{length, getD};
 ghost use Rattle.std.specs.Of.Vec.{vec-items};
-ghost use Rattle.std.specs.Vec.{made};
+ghost use Rattle.std.specs.Vec.{made, refused};
 ghost use Rattle.std.specs.declared.option.Option.the-variants.{Some};
 ghost use Rattle.std.specs.declared.result.Result.{Result};
 ghost use Rattle.orders.specs.Known.{hashNumbered, codeNumbered};
-ghost use Rattle.orders.specs.Outcomes.{Outcomes};
+ghost use Rattle.orders.specs.Outcomes.{Outcomes, afterRecord};
 ghost use Rattle.orders.specs.Reports.{Refused, Checked, CheckedBy, Unknown, Reports};
 ghost use Rattle.tree.specs.Meaning.{hashOf, codeOf};
 ghost use Rattle.verifier.specs.Records.{hashNumberOf, codeNumberOf};
@@ -69,6 +69,7 @@ fn check_orders<H: TreeHash, C: Code>(
     bytes: &[u8],
 ) -> Result<Vec<Result<u16, Refusal>>, AllocError>
     ensures answers { λ r. ⌜ made r (λ v. Outcomes (verifyRule (hashOf H·ChainHash H·TreeHash) (codeOf C·Code) (keyOf (now (key .entry)))) (now (bytes .entry)) (vec-items v)) ⌝ }
+    ensures lacking { λ r. ⌜ refused r (λ _. 0 < length (now (bytes .entry))) ⌝ }
     ensures only { λ r. ⌜ made r (λ v. (others : List (Result ℕ Refusal)) → Outcomes (verifyRule (hashOf H·ChainHash H·TreeHash) (codeOf C·Code) (keyOf (now (key .entry)))) (now (bytes .entry)) others → others ≡ vec-items v) ⌝ }
 {
     let mut outcomes = Vec::new(heap);
@@ -82,7 +83,7 @@ fn check_orders<H: TreeHash, C: Code>(
 }
 
 // The report where the key is refused.
-fn refused(heap: Global, refusal: Refusal) -> Report
+fn refused_key(heap: Global, refusal: Refusal) -> Report
     ensures { λ r. ⌜ Refused refusal r ⌝ }
 {
     Report {
@@ -97,7 +98,8 @@ fn check_with<H: TreeHash, C: Code>(
     key: &[u8],
     orders: &[u8],
 ) -> Result<Report, AllocError>
-    ensures { λ r. ⌜ made r (λ report. Checked (hashOf H·ChainHash H·TreeHash) (codeOf C·Code) (openRule (H·ChainHash .numbered) (C·Code .number) (C·Code .levels) (now (key .entry))) (now (orders .entry)) report) ⌝ }
+    ensures report { λ r. ⌜ made r (λ report. Checked (hashOf H·ChainHash H·TreeHash) (codeOf C·Code) (openRule (H·ChainHash .numbered) (C·Code .number) (C·Code .levels) (now (key .entry))) (now (orders .entry)) report) ⌝ }
+    ensures lacking { λ r. ⌜ refused r (λ _. 0 < length (now (orders .entry))) ⌝ }
 {
     match open::<H, C>(key) {
         Ok(opened) => {
@@ -112,7 +114,7 @@ fn check_with<H: TreeHash, C: Code>(
                 orders: outcomes,
             })
         }
-        Err(refusal) => Ok(refused(heap, refusal)),
+        Err(refusal) => Ok(refused_key(heap, refusal)),
     }
 }
 
@@ -121,8 +123,8 @@ fn unknown(heap: Global, key: &[u8]) -> Report
     ensures { λ r. ⌜ Unknown (headerRule 1 (now (key .entry))) r ⌝ }
 {
     match body_of(key, KEY) {
-        Ok(_) => refused(heap, Refusal::Parameters),
-        Err(refusal) => refused(heap, refusal),
+        Ok(_) => refused_key(heap, Refusal::Parameters),
+        Err(refusal) => refused_key(heap, refusal),
     }
 }
 
@@ -135,7 +137,8 @@ fn byte_at(bytes: &[u8], i: usize) -> u8
 
 // The report by hash `H` and the code that the key record names.
 fn check_by_code<H: TreeHash>(heap: Global, key: &[u8], orders: &[u8]) -> Result<Report, AllocError>
-    ensures { λ r. ⌜ made r (λ report. CheckedBy (Some (hashOf H·ChainHash H·TreeHash)) (codeNumbered (codeNumberOf (now (key .entry)))) (now (key .entry)) (now (orders .entry)) report) ⌝ }
+    ensures report { λ r. ⌜ made r (λ report. CheckedBy (Some (hashOf H·ChainHash H·TreeHash)) (codeNumbered (codeNumberOf (now (key .entry)))) (now (key .entry)) (now (orders .entry)) report) ⌝ }
+    ensures lacking { λ r. ⌜ refused r (λ _. 0 < length (now (orders .entry))) ⌝ }
 {
     match byte_at(key, 7) {
         LamportDiffie::NUMBER => check_with::<H, LamportDiffie>(heap, key, orders),
@@ -147,7 +150,8 @@ fn check_by_code<H: TreeHash>(heap: Global, key: &[u8], orders: &[u8]) -> Result
 
 // The report by the hash and the code that the key record names.
 fn check_by_hash(heap: Global, key: &[u8], orders: &[u8]) -> Result<Report, AllocError>
-    ensures { λ r. ⌜ made r (λ report. CheckedBy (hashNumbered (hashNumberOf (now (key .entry)))) (codeNumbered (codeNumberOf (now (key .entry)))) (now (key .entry)) (now (orders .entry)) report) ⌝ }
+    ensures report { λ r. ⌜ made r (λ report. CheckedBy (hashNumbered (hashNumberOf (now (key .entry)))) (codeNumbered (codeNumberOf (now (key .entry)))) (now (key .entry)) (now (orders .entry)) report) ⌝ }
+    ensures lacking { λ r. ⌜ refused r (λ _. 0 < length (now (orders .entry))) ⌝ }
 {
     match byte_at(key, 6) {
         Sha256Hash::NUMBER => check_by_code::<Sha256Hash>(heap, key, orders),
@@ -159,7 +163,8 @@ fn check_by_hash(heap: Global, key: &[u8], orders: &[u8]) -> Result<Report, Allo
 
 // Checks a key record and the orders that follow it, by the hash and code that the key record names.
 pub fn check(heap: Global, input: &[u8]) -> Result<Report, AllocError>
-    ensures { λ r. ⌜ made r (λ report. Reports (now (input .entry)) report) ⌝ }
+    ensures report { λ r. ⌜ made r (λ report. Reports (now (input .entry)) report) ⌝ }
+    ensures lacking { λ r. ⌜ refused r (λ _. 0 < length (afterRecord (now (input .entry)))) ⌝ }
 {
     let (key, orders) = split_record(input);
     check_by_hash(heap, key, orders)

@@ -7,7 +7,7 @@ ghost use Rattle.std.specs.Orderings.{Decides};
 ghost use Rattle.std.specs.shelf.Text.{sameBytes};
 ghost use Rattle.strings.specs.Strings.{xor, numeral, stringAt, putString};
 
-// The string that is not there: each place past a code's digits holds it.
+// The string of zeros.
 pub const ZERO: [u8; 16] = [0; 16];
 
 // Exclusive or, byte by byte.

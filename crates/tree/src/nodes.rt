@@ -25,7 +25,8 @@ pub fn parent<H: TreeHash>(
     H::pair(key, &left, &right)
 }
 
-// Writes the `n` parents at `level` of the first 2n strings of `row` over its first n strings.
+// Writes the `n` parents at `level` of the first 2n strings of `row` over its first n strings. Nothing is promised of
+// the strings after them.
 pub fn fold_level<H: TreeHash>(key: &[u8; 16], masks: &[u8], level: usize, row: &mut [u8], n: usize)
     requires masked { ⌜ 32 * level + 32 ≤ length (now masks) ⌝ }
     requires within { ⌜ 32 * n ≤ length (now row) ⌝ }

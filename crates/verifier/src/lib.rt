@@ -11,6 +11,7 @@ pub use header::RELEASE;
 pub use header::body_of;
 pub use key::OpenedKey;
 pub use opening::open;
+pub use opening::suits;
 pub use refusal::Refusal;
 pub use release::Release;
 pub use release::read_release;
