@@ -1,6 +1,6 @@
 // The leaves of a tree.
 ghost use mathlib.Core.Path.{_≡_};
-ghost use Prim.Native.Nat.{ℕ, _≤_, _<_};
+ghost use Prim.Native.Nat.{ℕ, _^_, _≤_, _<_};
 ghost use Rattle.growth.specs.Grown.{chainString, leafString, nodeAt};
 ghost use Rattle.strings.specs.Strings.{stringAt};
 ghost use Rattle.tree.specs.Meaning.{hashOf, codeOf};
@@ -11,6 +11,7 @@ use strings::number;
 use strings::put_string;
 use tree::chains::climb_chain;
 use tree::nodes::fold;
+use tree::nodes::parent;
 
 // The string of a leaf's chain at a height.
 pub fn chain_string<H: TreeHash>(origin: &Origin, leaf: u16, chain: usize, height: u8) -> [u8; 16]
@@ -48,4 +49,24 @@ pub fn leaf_node<H: TreeHash, C: Code>(
         C::level_count() as usize,
         work,
     )
+}
+
+// The node at a level and position, grown again from the seed. The work buffer is used up.
+pub fn grow_node<H: TreeHash, C: Code>(
+    origin: &Origin,
+    level: usize,
+    position: u16,
+    work: &mut [u8; 4096],
+) -> [u8; 16]
+    requires tall { ⌜ now origin .height ≤ 8 ⌝ }
+    requires within { ⌜ level ≤ now origin .height ⌝ }
+    requires there { ⌜ position < 2 ^ level ⌝ }
+    ensures { λ r. ⌜ r ≡ nodeAt (hashOf H·ChainHash H·TreeHash) (codeOf C·Code) (now (origin .entry)) level position ⌝ }
+{
+    if level == origin.height as usize {
+        return leaf_node::<H, C>(origin, position, work);
+    }
+    let left = grow_node::<H, C>(origin, level + 1, 2 * position, work);
+    let right = grow_node::<H, C>(origin, level + 1, 2 * position + 1, work);
+    parent::<H>(&origin.hash_key, &origin.masks, level, &left, &right)
 }

@@ -9,6 +9,7 @@ use signer::Plan;
 use signer::Signer;
 use std::error::AnyError;
 use verifier::open;
+use verifier::verify;
 
 type Making = Maker<Practice, Winternitz4>;
 
@@ -34,48 +35,106 @@ fn begin(rt: &LibcRuntime, plan: Plan, work: &mut [u8; 4096]) -> Result<Making, 
     Ok(maker)
 }
 
-// The key record is written, and read by a verifier that has nothing else.
-fn publish(rt: &LibcRuntime, key: &Signing) -> Result<(), AnyError> {
+// The key record is written; an output that is too short is refused.
+fn publish(rt: &LibcRuntime, key: &Signing, out: &mut [u8; 1024]) -> Result<usize, AnyError> {
+    if let Err(refusal) = key.key(&mut out[0..100]) {
+        let number = refusal.number();
+        println!(rt, "An output of 100 bytes is refused with {number}.")?;
+    }
+    let length = key.key(out).unwrap_or(0).min(1024);
+    println!(rt, "The key record has {length} bytes.")?;
+    Ok(length)
+}
+
+// An order is signed, and the record handed to a verifier that has the key record and nothing else.
+fn release(
+    rt: &LibcRuntime,
+    key: &mut Signing,
+    record: &[u8],
+    order: u8,
+    work: &mut [u8; 4096],
+) -> Result<(), AnyError> {
+    let stamp = [order; 16];
     let mut out = [0; 1024];
-    match key.key(&mut out[0..100]) {
-        Ok(_) => println!(rt, "A record in 100 bytes?")?,
+    match key.sign(&stamp, &mut out, work) {
+        Ok((length, leaf)) => {
+            println!(
+                rt,
+                "Order {order} is signed with leaf {leaf}: a release record of {length} bytes."
+            )?;
+            check(rt, record, &stamp, &out[0..length.min(1024)])
+        }
         Err(refusal) => {
             let number = refusal.number();
-            println!(rt, "An output of 100 bytes is refused with {number}.")?;
+            println!(
+                rt,
+                "Order {order} is refused with {number}: no leaf is left."
+            )?;
+            Ok(())
         }
     }
-    let length = key.key(&mut out).unwrap_or(0);
-    println!(rt, "The key record has {length} bytes.")?;
-    match open::<Practice, Winternitz4>(&out[0..length.min(1024)]) {
-        Ok(opened) => {
-            let height = opened.height();
-            println!(rt, "The verifier opens it: height {height}.")?;
-        }
+}
+
+fn check(
+    rt: &LibcRuntime,
+    record: &[u8],
+    stamp: &[u8; 16],
+    release: &[u8],
+) -> Result<(), AnyError> {
+    let Ok(opened) = open::<Practice, Winternitz4>(record) else {
+        return Err("the key record is refused".into());
+    };
+    match verify::<Practice, Winternitz4>(&opened, stamp, release) {
+        Ok(leaf) => println!(rt, "  The verifier opens the box: leaf {leaf}.")?,
         Err(refusal) => {
             let number = refusal.number();
-            println!(rt, "The verifier refuses it with {number}.")?;
+            println!(rt, "  The verifier refuses with {number}.")?;
         }
+    }
+    Ok(())
+}
+
+// A leaf is passed over, and there is no way back.
+fn skip(rt: &LibcRuntime, key: &mut Signing) -> Result<(), AnyError> {
+    if let Ok(next) = key.skip(3) {
+        println!(rt, "Leaf 2 is skipped: the next leaf is {next}.")?;
+    }
+    if let Err(refusal) = key.skip(2) {
+        let number = refusal.number();
+        println!(rt, "Going back to leaf 2 is refused with {number}.")?;
     }
     Ok(())
 }
 
 fn main(rt: LibcRuntime) -> Result<(), AnyError> {
     let mut work = [0; 4096];
-    match Plan::new(9) {
-        Ok(_) => println!(rt, "A plan of height 9?")?,
-        Err(refusal) => {
-            let number = refusal.number();
-            println!(rt, "A plan of height 9 is refused with {number}.")?;
-        }
+    if let Err(refusal) = Plan::new(9) {
+        let number = refusal.number();
+        println!(rt, "A plan of height 9 is refused with {number}.")?;
     }
     let Ok(plan) = Plan::new(2) else {
         return Err("a plan of height 2 is refused".into());
     };
     let maker = begin(&rt, plan, &mut work)?;
-    let key = maker.finish(&mut work);
+    let mut key = maker.finish(&mut work);
     println!(
         rt,
         "The leaves that lacked are grown, and the key is in service."
     )?;
-    publish(&rt, &key)
+    let mut out = [0; 1024];
+    let length = publish(&rt, &key, &mut out)?;
+    for order in 1..3u8 {
+        release(&rt, &mut key, &out[0..length.min(1024)], order, &mut work)?;
+    }
+    skip(&rt, &mut key)?;
+    for order in 3..5u8 {
+        release(&rt, &mut key, &out[0..length.min(1024)], order, &mut work)?;
+    }
+    let retired = key.retire();
+    let again = retired.key(&mut out).unwrap_or(0);
+    println!(
+        rt,
+        "The key is retired: it signs no more. Its key record still has {again} bytes."
+    )?;
+    Ok(())
 }

@@ -1,20 +1,21 @@
 -- What the calls of a maker and a signer answer and leave, on all inputs.
 -- Assumes nothing.
-use mathlib.Core.Bool.{cond, _||_}
+use mathlib.Core.Bool.{Bool, cond, _||_}
 use mathlib.Core.List.{List, _++_}
 use Prim.Native.Nat.{ℕ, zero, suc, _+_, _-_, _*_, _^_}
 use lib.Dec.{eqb, ltb}
-use lib.ListN.{length, take, drop, replicate}
-use Rattle.std.specs.declared.option.Option.the-variants.{None}
+use lib.ListN.{length, take, drop, replicate, set}
+use Rattle.std.specs.declared.option.Option.the-variants.{Some, None}
 use Rattle.std.specs.declared.result.Result.{Result}
 use Rattle.std.specs.declared.result.Result.the-variants.{Ok, Err}
 use Rattle.growth.specs.Grown.{withLeaf}
+use Rattle.growth.specs.Shown.{shownRow}
 use Rattle.growth.specs.declared.origin.Origin.{Origin}
 use Rattle.strings.specs.Strings.{stringAt}
 use Rattle.tree.specs.Meaning.{Hash, Code}
-use Rattle.verifier.specs.Records.{keyLength, keyBytes}
+use Rattle.verifier.specs.Records.{keyLength, keyBytes, releaseLength, releaseBytes}
 use Rattle.verifier.specs.declared.refusal.Refusal.{Refusal}
-use Rattle.verifier.specs.declared.refusal.Refusal.the-variants.{Plan, Grown, Output}
+use Rattle.verifier.specs.declared.refusal.Refusal.the-variants.{Plan, Grown, Spent, Output, Skip}
 use Rattle.signer.specs.States.{Making, Signing}
 
 -- a plan: the height, from 1 to 8
@@ -61,3 +62,43 @@ keyAnswer code s out = cond (ltb (length out) (keySize code s)) (Err Output) (Ok
 
 abbrev pub keyOutput : Hash → Code → Signing → List ℕ → List ℕ
 keyOutput hash code s out = cond (ltb (length out) (keySize code s)) out (keyRecord hash code s ++ drop (keySize code s) out)
+
+-- how long a release record of a signer is
+abbrev pub releaseSize : Code → Signing → ℕ
+releaseSize code s = releaseLength (code .count) (s .origin .height)
+
+-- the release record of the next leaf for a stamp
+unfoldable pub releaseRecord : Hash → Code → Signing → List ℕ → List ℕ
+releaseRecord hash code s stamp = releaseBytes (s .next) (shownRow hash code (s .origin) (s .next) stamp)
+
+-- all leaves are spent; the output is shorter than the record
+abbrev pub allSpent : Signing → Bool
+allSpent s = eqb (s .next) (2 ^ s .origin .height)
+
+abbrev pub noRoom : Code → Signing → List ℕ → Bool
+noRoom code s out = ltb (length out) (releaseSize code s)
+
+-- sign: the record's length and its leaf number
+abbrev pub signAnswer : Code → Signing → List ℕ → Result (ℕ × ℕ) Refusal
+signAnswer code s out = cond (allSpent s) (Err Spent) (cond (noRoom code s out) (Err Output) (Ok (releaseSize code s, s .next)))
+
+-- where sign refuses nothing changes; else the next leaf is raised by one and the stamp entered in the leaf's row
+abbrev pub signState : Code → Signing → List ℕ → List ℕ → Signing
+signState code s stamp out =
+    cond (allSpent s || noRoom code s out) s
+    (record { origin = s .origin; root = s .root; next = s .next + 1; rows = set (s .rows) (s .next) (Some stamp) })
+
+-- and the record is at the start of the output, and the rest stays
+abbrev pub signOutput : Hash → Code → Signing → List ℕ → List ℕ → List ℕ
+signOutput hash code s stamp out =
+    cond (allSpent s || noRoom code s out) out (releaseRecord hash code s stamp ++ drop (releaseSize code s) out)
+
+-- skip: a number below the next leaf, or above 2 ^ h, is refused and nothing changes; else it is the next leaf
+abbrev pub badSkip : Signing → ℕ → Bool
+badSkip s n = ltb n (s .next) || ltb (2 ^ s .origin .height) n
+
+abbrev pub skipAnswer : Signing → ℕ → Result ℕ Refusal
+skipAnswer s n = cond (badSkip s n) (Err Skip) (Ok n)
+
+abbrev pub skipState : Signing → ℕ → Signing
+skipState s n = cond (badSkip s n) s (record { origin = s .origin; root = s .root; next = n; rows = s .rows })

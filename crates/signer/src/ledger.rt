@@ -1,7 +1,8 @@
 // The ledger: which stamp each leaf was spent on.
 ghost use mathlib.Core.Path.{_≡_};
-ghost use lib.ListN.{replicate};
-ghost use Rattle.std.specs.declared.option.Option.the-variants.{None};
+ghost use Prim.Native.Nat.{_<_};
+ghost use lib.ListN.{replicate, set};
+ghost use Rattle.std.specs.declared.option.Option.the-variants.{Some, None};
 
 // A row for each leaf: empty, or the stamp that was signed.
 #[derive(Drop)]
@@ -14,5 +15,13 @@ impl Ledger {
         ensures { λ r. ⌜ r .rows ≡ replicate 256 None ⌝ }
     {
         Ledger { rows: [None; 256] }
+    }
+
+    // Enters a stamp in the row of a leaf; the other rows stay. No other call changes a row.
+    pub(crate) fn enter(&mut self, leaf: u16, stamp: &[u8; 16])
+        requires { ⌜ leaf < 256 ⌝ }
+        ensures { λ _. ⌜ now (self .exit) .rows ≡ set (now (self .entry) .rows) leaf (Some (now (stamp .entry))) ⌝ }
+    {
+        self.rows[leaf as usize] = Some(*stamp);
     }
 }

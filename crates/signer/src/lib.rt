@@ -1,4 +1,4 @@
-// The signer: a key is planned, begun, grown, and put into service.
+// The signer: a key is planned, begun, grown, put into service, signs, and is retired.
 mod ledger;
 mod maker;
 mod plan;
@@ -9,4 +9,5 @@ mod signer;
 pub use ledger::Ledger;
 pub use maker::Maker;
 pub use plan::Plan;
+pub use signer::Retired;
 pub use signer::Signer;

@@ -22,3 +22,9 @@ pub struct Signer<H, C> {
     ghost within: { next ≤ 2 ^ origin .height },
     ghost sized: { (length (origin .«hash_key») ≡ 16) × (length (origin .masks) ≡ 512) × (length root ≡ 16) },
 }
+
+// A key out of service: it signs no more. Only `retire` makes one.
+#[derive(Drop)]
+pub struct Retired<H, C> {
+    signer: Signer<H, C>,
+}

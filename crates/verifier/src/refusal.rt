@@ -8,8 +8,12 @@ pub enum Refusal {
     Plan = 1,
     // All leaves of a key are in.
     Grown = 2,
+    // All leaves of a signer are spent.
+    Spent = 3,
     // An output that is shorter than the record.
     Output = 4,
+    // A leaf to skip to that is below the next one, or past the last.
+    Skip = 5,
     // Fewer than 10 bytes, or a length field that differs from the number of bytes given.
     Length = 6,
     // Another kind of record than the wanted one.
