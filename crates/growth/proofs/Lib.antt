@@ -1,2 +1,4 @@
+pub mod Leads
 pub mod Paths
+pub mod Strings
 pub mod Trees

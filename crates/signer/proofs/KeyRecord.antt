@@ -23,7 +23,7 @@ module _ (hash : Hash) (code : Code) (s : Signing) where
   masksOf = take (32 * (s .origin .height + code .levels)) (s .origin .masks)
 
   -- the parts are as long as the layout says
-  parts : (1 ≤ s .origin .height) × (s .origin .height ≤ 8) → code .levels ≤ 8 → length (s .origin .«hash_key») ≡ 16 → length (s .origin .masks) ≡ 512 → length (s .root) ≡ 16 → KeyParts (code .levels) (s .origin .height) (s .origin .«hash_key») masksOf (s .root)
+  pub parts : (1 ≤ s .origin .height) × (s .origin .height ≤ 8) → code .levels ≤ 8 → length (s .origin .«hash_key») ≡ 16 → length (s .origin .masks) ≡ 512 → length (s .root) ≡ 16 → KeyParts (code .levels) (s .origin .height) (s .origin .«hash_key») masksOf (s .root)
   parts tall few keyed masked rooted =
       record {
         tall = tall;

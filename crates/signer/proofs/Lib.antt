@@ -1,3 +1,4 @@
+pub mod Accepting
 pub mod Growing
 pub mod KeyRecord
 pub mod ReleaseRecord

@@ -1,24 +1,17 @@
 -- A release record, part by part.
 -- Assumes nothing.
 use mathlib.Core.Path.{_≡_, refl, sym, ap, subst, _∙_}
-use mathlib.Core.List.{List, [], _∷_, _++_, map}
+use mathlib.Core.List.{List, [], _++_}
 use Prim.Native.Nat.{ℕ, zero, suc, _+_, _-_, _*_, _<_, _≤_}
-use native.Mathlib.Nat.{zero-add}
 use native.Mathlib.Omega.{arith}
 use lib.ListN.{length, take, drop}
 use Rattle.std.specs.Iters.{counting}
 use Rattle.std.specs.Joined.{joined}
-use Rattle.std.proofs.shelf.Counted.{map-counting-more}
-use Rattle.std.proofs.shelf.Lists.{append-assoc, length-append, length-take-le, map-id, joined-more, take-at, drop-at, drop-drop}
+use Rattle.std.proofs.shelf.Lists.{append-assoc, length-append, length-take-le, take-at, drop-at, drop-drop}
 use Rattle.strings.specs.Strings.{littleEndian}
 use Rattle.verifier.specs.Records.{releaseBytes}
 use Rattle.strings.proofs.Laws.{Put, Written, written-more}
-
-counting-push : (k : ℕ) → counting 0 (k + 1) ≡ counting 0 k ++ (k ∷ [])
-counting-push k = sym (map-id (counting 0 (k + 1))) ∙ map-counting-more (λ j. j) 0 k k (zero-add k) ∙ ap (λ l. l ++ (k ∷ [])) (map-id (counting 0 k))
-
-joined-push : (f : ℕ → List ℕ) (k : ℕ) → joined f (counting 0 (k + 1)) ≡ joined f (counting 0 k) ++ f k
-joined-push f k = ap (joined f) (counting-push k) ∙ sym (joined-more f [] (counting 0 k) k)
+use Rattle.growth.proofs.Strings.{joined-push}
 
 -- the front of 8 bytes and k strings, written
 abbrev pub Shown : (ℕ → List ℕ) → List ℕ → List ℕ → ℕ → Type 0

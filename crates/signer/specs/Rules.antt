@@ -2,18 +2,20 @@
 -- Assumes nothing.
 use mathlib.Core.Bool.{Bool, cond, _||_}
 use mathlib.Core.List.{List, _++_}
+use mathlib.Core.Path.{_≡_}
 use Prim.Native.Nat.{ℕ, zero, suc, _+_, _-_, _*_, _^_}
 use lib.Dec.{eqb, ltb}
 use lib.ListN.{length, take, drop, replicate, set}
 use Rattle.std.specs.declared.option.Option.the-variants.{Some, None}
 use Rattle.std.specs.declared.result.Result.{Result}
 use Rattle.std.specs.declared.result.Result.the-variants.{Ok, Err}
-use Rattle.growth.specs.Grown.{withLeaf}
+use Rattle.growth.specs.Grown.{nodeAt, withLeaf}
 use Rattle.growth.specs.Shown.{shownRow}
 use Rattle.growth.specs.declared.origin.Origin.{Origin}
 use Rattle.strings.specs.Strings.{stringAt}
 use Rattle.tree.specs.Meaning.{Hash, Code}
 use Rattle.verifier.specs.Records.{keyLength, keyBytes, releaseLength, releaseBytes}
+use Rattle.verifier.specs.Rules.{verifyRule}
 use Rattle.verifier.specs.declared.refusal.Refusal.{Refusal}
 use Rattle.verifier.specs.declared.refusal.Refusal.the-variants.{Plan, Grown, Spent, Output, Skip}
 use Rattle.signer.specs.States.{Making, Signing}
@@ -70,6 +72,15 @@ releaseSize code s = releaseLength (code .count) (s .origin .height)
 -- the release record of the next leaf for a stamp
 unfoldable pub releaseRecord : Hash → Code → Signing → List ℕ → List ℕ
 releaseRecord hash code s stamp = releaseBytes (s .next) (shownRow hash code (s .origin) (s .next) stamp)
+
+-- the signer's root is that of the tree it was grown from
+abbrev pub Rooted : Hash → Code → Signing → Type 0
+Rooted hash code s = s .root ≡ nodeAt hash code (s .origin) 0 0
+
+-- under the signer's key record, verify accepts the release record of the next leaf for this stamp, as that leaf
+abbrev pub Accepted : Hash → Code → Signing → List ℕ → Type 0
+Accepted hash code s stamp =
+    verifyRule hash code (record { bytes = keyRecord hash code s; height = s .origin .height }) stamp (releaseRecord hash code s stamp) ≡ Ok (s .next)
 
 -- all leaves are spent; the output is shorter than the record
 abbrev pub allSpent : Signing → Bool

@@ -1,5 +1,6 @@
 // A key that is being grown.
-ghost use Prim.Native.Nat.{_^_, _≤_};
+ghost use Prim.Native.Nat.{ℕ, _^_, _≤_, _<_};
+ghost use lib.ListN.{getD};
 use growth::Origin;
 use std::marker::PhantomData;
 
@@ -17,4 +18,5 @@ pub struct Maker<H, C> {
     code: PhantomData<C>,
     ghost tall: { (1 ≤ origin .height) × (origin .height ≤ 8) },
     ghost few: { grown ≤ 2 ^ origin .height },
+    ghost bytes: { (i : ℕ) → (getD (origin .seed) i 0 < 256) × (getD (origin .«hash_key») i 0 < 256) × (getD (origin .masks) i 0 < 256) },
 }

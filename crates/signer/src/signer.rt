@@ -1,7 +1,7 @@
 // A key in service.
 ghost use mathlib.Core.Path.{_≡_};
-ghost use Prim.Native.Nat.{_^_, _≤_};
-ghost use lib.ListN.{length};
+ghost use Prim.Native.Nat.{ℕ, _^_, _≤_, _<_};
+ghost use lib.ListN.{length, getD};
 use crate::ledger::Ledger;
 use growth::Origin;
 use std::marker::PhantomData;
@@ -21,6 +21,8 @@ pub struct Signer<H, C> {
     ghost tall: { (1 ≤ origin .height) × (origin .height ≤ 8) },
     ghost within: { next ≤ 2 ^ origin .height },
     ghost sized: { (length (origin .«hash_key») ≡ 16) × (length (origin .masks) ≡ 512) × (length root ≡ 16) },
+    ghost seeded: { length (origin .seed) ≡ 16 },
+    ghost bytes: { (i : ℕ) → (getD (origin .seed) i 0 < 256) × (getD (origin .«hash_key») i 0 < 256) × (getD (origin .masks) i 0 < 256) },
 }
 
 // A key out of service: it signs no more. Only `retire` makes one.

@@ -130,18 +130,18 @@ module _ (hash code levels h : ℕ) (hashKey masks root : List ℕ) (few : level
         laid = omega arith;
       }
 
-  written-key : hashKeyOf written ≡ hashKey
+  pub written-key : hashKeyOf written ≡ hashKey
   written-key = take-at hashKey (masks ++ root) 16 (parts .keyed)
 
   written-tail : drop 26 written ≡ masks ++ root
   written-tail = drop-at hashKey (masks ++ root) 16 (parts .keyed)
 
-  written-masks : masksOf written ≡ masks
+  pub written-masks : masksOf written ≡ masks
   written-masks =
       let long = rest-length in
       ap (take (length written - 42)) written-tail ∙ take-at masks root (length written - 42) (omega (arith, parts .masked))
 
-  written-root : rootOf written ≡ root
+  pub written-root : rootOf written ≡ root
   written-root =
       let long = rest-length in
       let place : length written - 16 ≡ 26 + length masks = omega (arith, parts .masked) in
@@ -176,11 +176,22 @@ leaf-more bytes h b =
     ∙ ap (λ l. getD bytes 6 0 ∷ l) (drop-more bytes 7 0 (omega arith))
     ∙ (λ i. e0 i ∷ (e1 i ∷ drop 8 bytes))
 
-pub reads-releases : (hash : ℕ) (code : Code) (key : Key) (bytes : List ℕ) → code .count ≤ 256 → Bytes bytes → suited hash (code .number) (code .levels) key ≡ true → ReadsReleases (code .count) (key .height) bytes (readRule hash code key bytes)
-reads-releases hash code key bytes few b suits =
+-- what writing a release yields is read as that release
+pub written-reads : (hash : ℕ) (code : Code) (key : Key) (leaf : ℕ) (row : List ℕ) → code .count ≤ 256 → suited hash (code .number) (code .levels) key ≡ true → ReleaseParts (code .count) (key .height) leaf row → readRule hash code key (releaseBytes leaf row) ≡ Ok (record { leaf = leaf; row = row })
+written-reads hash code key leaf row few suits parts =
     let opened = suited-to hash (code .number) (code .levels) key suits in
     let tall = opened .0 .tall in
     let height = opened .1 in
+    let small : 2 ^ key .height ≤ 256 = pow-mono {i = key .height} {j = 8} (omega arith) in
+    let below = parts .numbered in
+    let filled = parts .filled in
+    let made = releaseBytes leaf row in
+    let number : leafOf made ≡ leaf = omega arith in
+    read-from hash code key made (record { headed = framed-headed 2 (littleEndian 2 leaf ++ row) (omega arith) (omega arith) (omega arith); suits = suits; laid = omega arith; below = omega arith })
+    ∙ ap {B = Result Shown Refusal} (λ n. Ok (record { leaf = n; row = row })) number
+
+pub reads-releases : (hash : ℕ) (code : Code) (key : Key) (bytes : List ℕ) → code .count ≤ 256 → Bytes bytes → suited hash (code .number) (code .levels) key ≡ true → ReadsReleases (code .count) (key .height) bytes (readRule hash code key bytes)
+reads-releases hash code key bytes few b suits =
     record {
       written = λ leaf row p.
           let r = read-to hash code key bytes (record { leaf = leaf; row = row }) p in
@@ -193,13 +204,5 @@ reads-releases hash code key bytes few b suits =
             },
             frame 2 bytes b (r .0 .headed) ∙ ap (framed 2) (leaf-more bytes (omega arith) b) ∙ (λ i. releaseBytes (sym is i) (sym rest i)),
           );
-      read = λ leaf row parts e.
-          let small : 2 ^ key .height ≤ 256 = pow-mono {i = key .height} {j = 8} (omega arith) in
-          let below = parts .numbered in
-          let filled = parts .filled in
-          let made = releaseBytes leaf row in
-          let number : leafOf made ≡ leaf = omega arith in
-          ap (readRule hash code key) e
-          ∙ read-from hash code key made (record { headed = framed-headed 2 (littleEndian 2 leaf ++ row) (omega arith) (omega arith) (omega arith); suits = suits; laid = omega arith; below = omega arith })
-          ∙ ap {B = Result Shown Refusal} (λ n. Ok (record { leaf = n; row = row })) number;
+      read = λ leaf row parts e. ap (readRule hash code key) e ∙ written-reads hash code key leaf row few suits parts;
     }

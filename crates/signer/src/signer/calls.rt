@@ -1,8 +1,9 @@
 // The calls of a key in service.
 ghost use mathlib.Core.Path.{_≡_};
+ghost use Prim.Native.Nat.{_^_, _<_};
 ghost use lib.ListN.{replicate};
 ghost use Rattle.std.specs.declared.result.Result.the-variants.{Ok};
-ghost use Rattle.signer.specs.Rules.{keyRecord, keyAnswer, keyOutput, signAnswer, signState, signOutput, skipAnswer, skipState};
+ghost use Rattle.signer.specs.Rules.{Rooted, Accepted, keyRecord, keyAnswer, keyOutput, signAnswer, signState, signOutput, skipAnswer, skipState};
 ghost use Rattle.signer.specs.Views.{signingOf};
 ghost use Rattle.tree.specs.Meaning.{hashOf, codeOf};
 ghost use Rattle.verifier.specs.Rules.{openRule};
@@ -48,6 +49,7 @@ impl<H: TreeHash, C: Code> Signer<H, C> {
         ensures answer { λ r. ⌜ r ≡ signAnswer (codeOf C·Code) (signingOf (now (self .entry))) (now (out .entry)) ⌝ }
         ensures state { λ _. ⌜ signingOf (now (self .exit)) ≡ signState (codeOf C·Code) (signingOf (now (self .entry))) (now (stamp .entry)) (now (out .entry)) ⌝ }
         ensures output { λ _. ⌜ now (out .exit) ≡ signOutput (hashOf H·ChainHash H·TreeHash) (codeOf C·Code) (signingOf (now (self .entry))) (now (stamp .entry)) (now (out .entry)) ⌝ }
+        ensures accepted { λ _. ⌜ (Rooted (hashOf H·ChainHash H·TreeHash) (codeOf C·Code) (signingOf (now (self .entry))) → now (self .entry) .next < 2 ^ now (self .entry) .origin .height → Accepted (hashOf H·ChainHash H·TreeHash) (codeOf C·Code) (signingOf (now (self .entry))) (now (stamp .entry))) ⌝ }
         ensures wiped { λ _. ⌜ now (work .exit) ≡ replicate 4096 0 ⌝ }
     {
         let guard = Scratch { bytes: work };
@@ -91,6 +93,7 @@ impl<H: TreeHash, C: Code> Retired<H, C> {
     pub fn key(&self, out: &mut [u8]) -> Result<usize, Refusal>
         ensures answer { λ r. ⌜ r ≡ keyAnswer (codeOf C·Code) (signingOf (now (self .entry) .signer)) (now (out .entry)) ⌝ }
         ensures output { λ _. ⌜ now (out .exit) ≡ keyOutput (hashOf H·ChainHash H·TreeHash) (codeOf C·Code) (signingOf (now (self .entry) .signer)) (now (out .entry)) ⌝ }
+        ensures opens { λ _. ⌜ openRule (H·ChainHash .numbered) (C·Code .number) (C·Code .levels) (keyRecord (hashOf H·ChainHash H·TreeHash) (codeOf C·Code) (signingOf (now (self .entry) .signer))) ≡ Ok (record { bytes = keyRecord (hashOf H·ChainHash H·TreeHash) (codeOf C·Code) (signingOf (now (self .entry) .signer)); height = now (self .entry) .signer .origin .height }) ⌝ }
     {
         self.signer.key(out)
     }

@@ -1,6 +1,7 @@
 use mathlib.Core.Path.{_≡_, ap, subst, _∙_}
 use Prim.Native.Nat.{_^_, _<_}
 use native.Mathlib.Omega.{arith}
+use borrow.Author.Needs.{needs}
 use Rattle.std.proofs.shelf.Bits.{one-shl}
 use Rattle.growth.specs.Grown.{Holds}
 use Rattle.growth.proofs.Trees.{holds-root}
@@ -37,3 +38,6 @@ returns g c =
       rooted = λ held. c .string-at-root .ensures ∙ holds-root hash code o (c .loop-grown .nodes) (subst (λ n. Holds hash code o n (c .loop-grown .nodes)) all (c .loop-grown .inv .3 held));
       wiped = c .drop-guard .ensures;
     }
+
+pub ghost-result : need.ghost-result
+ghost-result g c = (c .args .self .tall, (search needs, (search needs, (search needs, (c .args .self .bytes, search needs)))))
