@@ -1,4 +1,5 @@
 pub mod Accepting
 pub mod Growing
 pub mod KeyRecord
+pub mod Ledgers
 pub mod ReleaseRecord

@@ -7,6 +7,7 @@ use Rattle.growth.specs.Grown.{Holds}
 use Rattle.growth.proofs.Trees.{holds-root}
 use Rattle.strings.specs.Strings.{stringAt}
 use Rattle.tree.specs.Meaning.{hashOf, codeOf}
+use Rattle.signer.proofs.Ledgers.{empty-fresh}
 use Rattle.signer.proofs.Growing.{leaves-turn, leaves-all}
 use Rattle.signer.proofs.maker.Maker.finish.Needs as need
 
@@ -40,4 +41,4 @@ returns g c =
     }
 
 pub ghost-result : need.ghost-result
-ghost-result g c = (c .args .self .tall, (search needs, (search needs, (search needs, (c .args .self .bytes, search needs)))))
+ghost-result g c = (c .args .self .tall, (search needs, (search needs, ((λ i le. empty-fresh _ 256 i (c .empty .ensures)), (search needs, (c .args .self .bytes, search needs))))))

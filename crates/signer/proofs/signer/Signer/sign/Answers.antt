@@ -3,6 +3,7 @@ use mathlib.Core.List.{List, _++_}
 use mathlib.Core.Path.{_≡_, sym, ap, _∙_}
 use Prim.Native.Nat.{ℕ, _+_, _*_, _%_, _^_, _<_, _≤_}
 use native.Mathlib.Omega.{arith}
+use borrow.Author.Needs.{needs}
 use lib.Dec.{ltb}
 use lib.ListN.{length, drop}
 use lib.Pow.{pow-mono}
@@ -21,6 +22,7 @@ use Rattle.signer.specs.States.{Signing}
 use Rattle.signer.specs.Views.{signingOf}
 use Rattle.signer.specs.declared.signer.Signer.{Signer}
 use Rattle.signer.proofs.Accepting.{accepting}
+use Rattle.signer.proofs.Ledgers.{enter-fresh}
 use Rattle.signer.proofs.signer.Signer.sign.Given as given
 use Rattle.signer.proofs.signer.Signer.sign.Needs as need
 
@@ -93,3 +95,10 @@ returns g c =
       accepted = accepts g (c .args .self .now) (c .args .stamp .now) (str-from (c .args .stamp .now) (c .told-stamp) (c .fits-stamp));
       wiped = c .drop-guard-2 .ensures;
     }
+
+pub ghost-self : need.ghost-self
+ghost-self g c =
+    let self = c .args .self .now in
+    let tall = self .tall in
+    let shift = one-shl (self .origin .height) 16 (omega arith) in
+    (tall, (omega (arith, self .within, c .if-leaf-self .left), (self .sized, (enter-fresh _ _ (self .next) _ (c .enter .ensures) (self .fresh), (self .seeded, (self .bytes, search needs))))))
