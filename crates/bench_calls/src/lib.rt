@@ -1,6 +1,8 @@
 // What programs in Rust or C call: bench/ measures and compares by it. `calls` has whole keys; here are chains of steps and of pairs.
 // Each call takes the key and the strings as slices, and answers one byte of the last string: 0 where a slice has not 16 bytes,
 // or the string has no byte at the place.
+#![tactic(auto)]
+
 ghost use Rattle.std.specs.Prelude.{◌≡◌, length, ◌≢◌, slice_index};
 ghost use Rattle.tree.specs.Nodes.{raise};
 ghost use Rattle.sha256.specs.TreeHash.{sha_step, sha_pair};

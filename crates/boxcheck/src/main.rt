@@ -1,4 +1,6 @@
 // boxcheck: reads a key record and orders from standard input, and prints which orders would open the box.
+#![tactic(auto)]
+
 use orders::check;
 use std::io::Read;
 

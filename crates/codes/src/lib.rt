@@ -1,4 +1,6 @@
 // Codes: each turns a stamp of 16 bytes and a place into a digit.
+#![tactic(auto)]
+
 mod bits;
 mod code;
 mod lamport_diffie;

@@ -1,4 +1,6 @@
 // Comparing a release record with what a signer's seed and ledger give.
+#![tactic(auto)]
+
 mod chains;
 mod comparing;
 mod pairs;

@@ -1,4 +1,6 @@
 // Worked examples of the scheme.
+#![tactic(auto)]
+
 ghost use Rattle.std.specs.Prelude.{◌≡◌, length};
 ghost use Rattle.examples.specs.Examples.{examples, Worked};
 

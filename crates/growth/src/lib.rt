@@ -1,4 +1,6 @@
 // Growing a tree leaf by leaf.
+#![tactic(auto)]
+
 mod leaves;
 mod origin;
 mod shown;

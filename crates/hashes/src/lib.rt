@@ -1,4 +1,6 @@
 // Keyed hashes on 16-byte strings: what chains and trees ask of one, and the practice hash.
+#![tactic(auto)]
+
 ghost use Rattle.std.specs.Prelude.{◌≡◌, ℕ, ◌<◌, List};
 ghost use Rattle.strings.specs.Strings.{Str};
 

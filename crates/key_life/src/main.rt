@@ -1,4 +1,6 @@
 // lifecycle: the life of a key, told step by step.
+#![tactic(auto)]
+
 use anyhow::anyhow;
 use codes::Winternitz4;
 use hashes::Practice;

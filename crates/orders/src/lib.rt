@@ -1,4 +1,6 @@
 // Checks a key record and the orders that follow it, from bytes to outcomes.
+#![tactic(auto)]
+
 mod checking;
 mod records;
 mod report;

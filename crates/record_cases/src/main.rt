@@ -1,4 +1,6 @@
 // record_cases: grows the key of each case, signs, and compares both records with those that an independent model wrote.
+#![tactic(auto)]
+
 ghost use Rattle.std.specs.Prelude.{◌≤◌, length};
 
 use aes128::Aes128Hash;

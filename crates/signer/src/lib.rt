@@ -1,4 +1,6 @@
 // The signer: a key is planned, begun, grown, put into service, signs, and is retired.
+#![tactic(auto)]
+
 mod ledger;
 mod maker;
 mod plan;

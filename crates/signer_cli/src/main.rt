@@ -1,4 +1,6 @@
 // signer_cli: reads calls of a signer from standard input, a line for each, and prints a line of answer for each.
+#![tactic(auto)]
+
 use aes128::Aes128Hash;
 use codes::{Code, LamportDiffie, Winternitz2, Winternitz4};
 use hashes::{Practice, TreeHash};

@@ -1,4 +1,6 @@
 // Strings of 16 bytes: exclusive or, comparison, numbers as strings, and rows of strings in a buffer.
+#![tactic(auto)]
+
 ghost use Rattle.std.specs.Prelude.{◌≡◌, ℕ, ◌+◌, ◌*◌, ◌^◌, ◌<◌, ◌≤◌, ◌++◌, length, take, drop, Decides, ◌≢◌};
 ghost use Rattle.std.specs.Str.{bytes_eq};
 ghost use Rattle.strings.specs.Strings.{xor, numeral, string_at, put_string};

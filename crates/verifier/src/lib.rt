@@ -1,4 +1,6 @@
 // The verifier: reads key and release records as they lie in the caller's bytes, and says whether a release opens.
+#![tactic(auto)]
+
 mod header;
 mod key;
 mod opening;

@@ -6,5 +6,5 @@ use Rattle.strings.proofs.number.Goals as goal
 pub returns : goal.returns
 unfolding numeral
 returns c =
-    let is : c.to-le-bytes.result ≡ numeral c.args.n = search rules in
+    let is : c.to_le_bytes.result ≡ numeral c.args.n = search rules in
     record { value = is; known = λ m h e. numeral-injective m c.args.n h (search rules) (e ∙ is) }

@@ -10,7 +10,7 @@ returns c =
     let row = c.args.bytes.now in
     let s = c.args.string.now in
     let i = c.args.i in
-    let is : put_mid (16 * i) (16 * i + 16 - 16 * i) row c.copy-from-slice.new.self ≡ put_string row i s = search (rules, overwrites) in
+    let is : put_mid (16 * i) (16 * i + 16 - 16 * i) row c.copy_from_slice.new.self ≡ put_string row i s = search (rules, overwrites) in
     record {
       after = is;
       here = ap (λ l. string_at l i) is ∙ at-put-same row i s c.requires c.told-string;
