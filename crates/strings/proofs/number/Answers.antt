@@ -1,4 +1,4 @@
-use Rattle.std.proofs.Common.{◌≡◌, ◌^◌, ◌<◌, ◌∙◌, arith, rules}
+use Rattle.std.proofs.Common.{◌≡◌, ◌∙◌, rules}
 use Rattle.strings.specs.Strings.{numeral}
 use Rattle.strings.proofs.Laws.{numeral-injective}
 use Rattle.strings.proofs.number.Goals as goal
