@@ -8,7 +8,7 @@ returns g c =
     let place = c.args.place in
     record {
       answered =
-          λ k s t. c.byte-at.ensures
-          ∙ ap (λ u. get_or u place 0) (c.join-on-last.ensures ∙ (λ i. raise (λ u. g.H.TreeHash.pairs ((c.string-at.ensures ∙ whole _ k) i) u ((c.string-at-3.ensures ∙ whole _ t) i)) c.args.turns ((c.string-at-2.ensures ∙ whole _ s) i)));
+          λ k s t. c.byte_at.ensures
+          ∙ ap (λ u. get_or u place 0) (c.join_on-last.ensures ∙ (λ i. raise (λ u. g.H.TreeHash.pairs ((c.string_at.ensures ∙ whole _ k) i) u ((c.string_at-3.ensures ∙ whole _ t) i)) c.args.turns ((c.string_at-2.ensures ∙ whole _ s) i)));
       refused = λ no. absurd (no c.if-key-ne16.false c.if-left-ne16.false c.if-right-ne16.false);
     }

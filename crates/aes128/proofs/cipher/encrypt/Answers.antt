@@ -18,8 +18,8 @@ loop-n-preserved c =
     let key = c.args.key.now in
     let block = c.args.block.now in
     let n = c.loop-n.n in
-    let next = next-key_of_round key c.loop-n.round-key c.next-round-key-next.result n c.loop-n.invariant.0 c.next-round-key-next.ensures in
-    (next, c.full-round-after.ensures ∙ (λ t. full_round (c.loop-n.invariant.1 t) (next t)) ∙ sym (rounds-more key block n))
+    let next = next-key_of_round key c.loop-n.round_key c.next_round_key-next.result n c.loop-n.invariant.0 c.next_round_key-next.ensures in
+    (next, c.full_round-after.ensures ∙ (λ t. full_round (c.loop-n.invariant.1 t) (next t)) ∙ sym (rounds-more key block n))
 
 pub returns : goal.returns
 unfolding aes128_of
@@ -28,5 +28,5 @@ returns c =
     let block = c.args.block.now in
     let end : c.loop-n.n ≡ 9 = omega arith in
     let state = c.loop-n.invariant.1 ∙ ap (rounds key block) end in
-    let last = next-key_of_round key c.loop-n.round-key c.next-round-key.result 9 (c.loop-n.invariant.0 ∙ ap (key_of_round key) end) c.next-round-key.ensures in
-    c.final-round.ensures ∙ (λ t. final_round (state t) (last t))
+    let last = next-key_of_round key c.loop-n.round_key c.next_round_key.result 9 (c.loop-n.invariant.0 ∙ ap (key_of_round key) end) c.next_round_key.ensures in
+    c.final_round.ensures ∙ (λ t. final_round (state t) (last t))

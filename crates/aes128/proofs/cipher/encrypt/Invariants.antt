@@ -4,4 +4,4 @@ use Rattle.aes128.specs.Cipher.{rounds}
 use Rattle.aes128.proofs.cipher.encrypt.Given as goal
 
 abbrev pub invariant-loop-n : goal.invariant-loop-n
-invariant-loop-n l = (l.round-key ≡ key_of_round l.key l.n) × (l.state ≡ rounds l.key l.block l.n)
+invariant-loop-n l = (l.round_key ≡ key_of_round l.key l.n) × (l.state ≡ rounds l.key l.block l.n)

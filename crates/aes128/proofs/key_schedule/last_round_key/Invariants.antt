@@ -3,4 +3,4 @@ use Rattle.aes128.specs.Schedule.{key_of_round}
 use Rattle.aes128.proofs.key_schedule.last_round_key.Given as goal
 
 abbrev pub invariant-loop-n : goal.invariant-loop-n
-invariant-loop-n l = l.round-key ≡ key_of_round l.key l.n
+invariant-loop-n l = l.round_key ≡ key_of_round l.key l.n

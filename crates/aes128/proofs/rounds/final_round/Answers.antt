@@ -7,4 +7,4 @@ pub returns : goal.returns
 unfolding final_round
 returns c =
     c.mask.ensures.value
-    ∙ ap (λ s. xor s c.args.round-key.now) (c.shift-rows.ensures ∙ ap shift_rows c.sub-bytes.ensures)
+    ∙ ap (λ s. xor s c.args.round_key.now) (c.shift_rows.ensures ∙ ap shift_rows c.sub_bytes.ensures)

@@ -7,4 +7,4 @@ use Rattle.bench_calls.proofs.lives.finish.Goals as goal
 pub returns : goal.returns
 returns g c =
     ap Ok c.finish.ensures.state
-    ∙ ap (λ b. after b (λ m. Ok (finish_rule (hash_of g.H.ChainHash g.H.TreeHash) (code_of g.C.Code) m))) c.in-ok-maker.ensures
+    ∙ ap (λ b. after b (λ m. Ok (finish_rule (hash_of g.H.ChainHash g.H.TreeHash) (code_of g.C.Code) m))) c.in_ok-maker.ensures

@@ -12,12 +12,12 @@ returns-in-Some g c =
     let grown : Making → Making = grows (hash_of g.H.ChainHash g.H.TreeHash) (code_of g.C.Code) c.args.leaves in
     let level = c.args.level in
     let node = c.args.node.now in
-    let held : Some c.in-Some.held ≡ held_rule (grown (making_of c.in-ok-maker.maker)) level =
-    c.in-Some.ensures.value ∙ ap (λ m. held_rule m level) c.grow-on.ensures
+    let held : Some c.in-Some.held ≡ held_rule (grown (making_of c.in_ok-maker.maker)) level =
+    c.in-Some.ensures.value ∙ ap (λ m. held_rule m level) c.grow_on.ensures
     in
     record {
       answer =
-          ap (λ o. Ok (held_numbers o)) held ∙ ap (λ b. after b (λ m. Ok (held_numbers (held_rule (grown m) level)))) c.in-ok-maker.ensures;
+          ap (λ o. Ok (held_numbers o)) held ∙ ap (λ b. after b (λ m. Ok (held_numbers (held_rule (grown m) level)))) c.in_ok-maker.ensures;
       output =
-          ap (λ o. held_string o node) held ∙ ap (λ b. left_by b node (λ m. held_string (held_rule (grown m) level) node)) c.in-ok-maker.ensures;
+          ap (λ o. held_string o node) held ∙ ap (λ b. left_by b node (λ m. held_string (held_rule (grown m) level) node)) c.in_ok-maker.ensures;
     }

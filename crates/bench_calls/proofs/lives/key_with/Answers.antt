@@ -13,7 +13,7 @@ loop-init g c = sym (raise-none _ _)
 
 pub loop-preserved : goal.loop-preserved
 loop-preserved g c =
-    let write : List ℕ → List ℕ = key_output (hash_of g.H.ChainHash g.H.TreeHash) (code_of g.C.Code) (signing_of c.in-ok-signer.signer) in
+    let write : List ℕ → List ℕ = key_output (hash_of g.H.ChainHash g.H.TreeHash) (code_of g.C.Code) (signing_of c.in_ok-signer.signer) in
     c.key.ensures.output ∙ ap write c.loop.invariant ∙ raise-more write c.loop.counter c.args.out.now
 
 pub returns : goal.returns
@@ -22,15 +22,15 @@ returns g c =
     let code = code_of g.C.Code in
     let out = c.args.out.now in
     let n = c.args.turns in
-    let s = signing_of c.in-ok-signer.signer in
+    let s = signing_of c.in_ok-signer.signer in
     let written : c.loop.out ≡ raise (key_output hash code s) n out = c.loop.invariant ∙ ap (λ k. raise (key_output hash code s) k out) (omega arith) in
     record {
       answer =
           c.key-2.ensures.answer
           ∙ ap (key_answer code s) written
-          ∙ ap (λ b. after b (λ t. key_answer code t (raise (key_output hash code t) n out))) c.in-ok-signer.ensures;
+          ∙ ap (λ b. after b (λ t. key_answer code t (raise (key_output hash code t) n out))) c.in_ok-signer.ensures;
       output =
           c.key-2.ensures.output
           ∙ ap (key_output hash code s) written
-          ∙ ap (λ b. left_by b out (λ t. key_output hash code t (raise (key_output hash code t) n out))) c.in-ok-signer.ensures;
+          ∙ ap (λ b. left_by b out (λ t. key_output hash code t (raise (key_output hash code t) n out))) c.in_ok-signer.ensures;
     }

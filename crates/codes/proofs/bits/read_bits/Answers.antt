@@ -7,8 +7,8 @@ use Rattle.codes.proofs.bits.read_bits.Goals as goal
 pub bounds-stamp-at : goal.bounds-stamp-at
 bounds-stamp-at c = (in-stamp c.args.width c.args.j c.requires.0 c.requires.1).0
 
-pub overflow-sub-result-2 : goal.overflow-sub-result-2
-overflow-sub-result-2 c = omega (arith, (in-stamp c.args.width c.args.j c.requires.0 c.requires.1).1)
+pub overflow_sub-result-2 : goal.overflow_sub-result-2
+overflow_sub-result-2 c = omega (arith, (in-stamp c.args.width c.args.j c.requires.0 c.requires.1).1)
 
 pub returns : goal.returns
 returns c =

@@ -7,7 +7,7 @@ use Rattle.codes.proofs.winternitz.digit_at.Goals as goal
 
 pub returns-then-place-front : goal.returns-then-place-front
 returns-then-place-front c =
-    c.read-bits.ensures ∙ sym (winternitz-front c.args.width c.args.ends c.args.stamp.now c.args.place c.if-place-front.true)
+    c.read_bits.ensures ∙ sym (winternitz-front c.args.width c.args.ends c.args.stamp.now c.args.place c.if-place-front.true)
 
 pub returns-then-end-ends : goal.returns-then-end-ends
 returns-then-end-ends c =
@@ -18,21 +18,21 @@ returns-then-end-ends c =
 shift : (w n t : ℕ) → w * n < 16 → t < n → w * t < 16
 shift w n t h g = omega (arith, mul-le w t w n (omega arith) (omega arith))
 
-pub overflow-mul-result : goal.overflow-mul-result
-overflow-mul-result c = Fits-bits 4 tt (shift c.args.width c.args.ends _ c.requires.1 (omega arith))
+pub overflow_mul-result : goal.overflow_mul-result
+overflow_mul-result c = Fits-bits 4 tt (shift c.args.width c.args.ends _ c.requires.1 (omega arith))
 
-pub overflow-cast-result-2 : goal.overflow-cast-result-2
-overflow-cast-result-2 c = Fits-bits 4 tt (shift c.args.width c.args.ends _ c.requires.1 (omega arith))
+pub overflow_cast-result-2 : goal.overflow_cast-result-2
+overflow_cast-result-2 c = Fits-bits 4 tt (shift c.args.width c.args.ends _ c.requires.1 (omega arith))
 
-pub overflow-shr-result : goal.overflow-shr-result
-overflow-shr-result c = shift c.args.width c.args.ends _ c.requires.1 (omega arith)
+pub overflow_shr-result : goal.overflow_shr-result
+overflow_shr-result c = shift c.args.width c.args.ends _ c.requires.1 (omega arith)
 
 pub returns : goal.returns
 returns c =
     let w = c.args.width in
     let by = 2 ^ (w * (c.args.ends - 1 - (c.args.place - 128 / w))) in
-    let moved = c.stamp-checksum.result / by in
+    let moved = c.stamp_checksum.result / by in
     ap (λ t. bit_and moved (t - 1)) (one_shl w 16 (omega arith))
     ∙ and_mask moved w
-    ∙ ap (λ t. t / by % 2 ^ w) c.stamp-checksum.ensures
+    ∙ ap (λ t. t / by % 2 ^ w) c.stamp_checksum.ensures
     ∙ sym (winternitz-end w c.args.ends c.args.stamp.now c.args.place c.if-place-front.false c.if-end-ends.false)

@@ -9,10 +9,10 @@ step : (c : goal.After-from) → (1 * 2 ^ c.args.width % 65536 - c.from.result) 
 step c =
     let w = c.args.width in
     let more = checksum-more w c.args.stamp.now c.loop-j.j c.loop-j-test.true in
-    omega (arith, more, one_shl w 16 (omega arith), c.from.ensures, c.read-bits.ensures)
+    omega (arith, more, one_shl w 16 (omega arith), c.from.ensures, c.read_bits.ensures)
 
-pub overflow-add-sum : goal.overflow-add-sum
-overflow-add-sum c = omega (arith, step c, c.loop-j.invariant, checksum-fits c.args.width c.args.stamp.now c.requires)
+pub overflow_add-sum : goal.overflow_add-sum
+overflow_add-sum c = omega (arith, step c, c.loop-j.invariant, checksum-fits c.args.width c.args.stamp.now c.requires)
 
 pub loop-j-preserved : goal.loop-j-preserved
 loop-j-preserved c = omega (arith, step c, c.loop-j.invariant)

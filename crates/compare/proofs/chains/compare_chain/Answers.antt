@@ -9,8 +9,8 @@ use Rattle.compare.specs.Views.{traced_of}
 use Rattle.compare.proofs.Firsts.{last-same}
 use Rattle.compare.proofs.chains.compare_chain.Goals as goal
 
-pub climb-both-find-requires : goal.climb-both-find-requires
-climb-both-find-requires g c = omega (arith, c.digit-of-digit.ensures.within, c.top-digit.ensures)
+pub climb_both-find-requires : goal.climb_both-find-requires
+climb_both-find-requires g c = omega (arith, c.digit_of-digit.ensures.within, c.top_digit.ensures)
 
 pub returns : goal.returns
 returns g c =
@@ -20,18 +20,18 @@ returns g c =
     let step = hash.step t.origin.hash_key in
     let k = c.args.chain in
     let d = code.digit t.stamp k in
-    let is : c.digit-of-digit.result ≡ d = c.digit-of-digit.ensures.value in
-    let top : c.top-digit.result ≡ code.top = c.top-digit.ensures in
-    let low = c.digit-of-digit.ensures.within in
-    let ours : c.chain-string-ours.result ≡ our_chain hash code t k d = c.chain-string-ours.ensures ∙ ap (our_chain hash code t k) is in
+    let is : c.digit_of-digit.result ≡ d = c.digit_of-digit.ensures.value in
+    let top : c.top_digit.result ≡ code.top = c.top_digit.ensures in
+    let low = c.digit_of-digit.ensures.within in
+    let ours : c.chain_string-ours.result ≡ our_chain hash code t k d = c.chain_string-ours.ensures ∙ ap (our_chain hash code t k) is in
     let rises : (e : ℕ) → raise step e (our_chain hash code t k d) ≡ our_chain hash code t k (e + d) = λ e. raise-add step e d (secret hash t.origin t.leaf k) in
     let end : (code.top - d) + d ≡ code.top = omega arith in
     record {
-      ours = c.climb-both-find.ensures.ours ∙ (λ i. raise step (top i - is i) (ours i)) ∙ rises (code.top - d) ∙ ap (our_chain hash code t k) end;
-      theirs = c.climb-both-find.ensures.theirs ∙ (λ i. raise step (top i - is i) (c.string-at-theirs.ensures i));
+      ours = c.climb_both-find.ensures.ours ∙ (λ i. raise step (top i - is i) (ours i)) ∙ rises (code.top - d) ∙ ap (our_chain hash code t k) end;
+      theirs = c.climb_both-find.ensures.theirs ∙ (λ i. raise step (top i - is i) (c.string_at-theirs.ensures i));
       broken =
-          c.climb-both-find.ensures.find
-          ∙ (λ i. last_from (λ e. step_find step k e (raise step (e - is i) (ours i)) (raise step (e - is i) (c.string-at-theirs.ensures i))) (is i) (top i - is i))
+          c.climb_both-find.ensures.find
+          ∙ (λ i. last_from (λ e. step_find step k e (raise step (e - is i) (ours i)) (raise step (e - is i) (c.string_at-theirs.ensures i))) (is i) (top i - is i))
           ∙ last-same _ (chain_find_at hash code t k) d (code.top - d)
           (λ e below.
           let back : (d + e - d) + d ≡ d + e = omega arith in

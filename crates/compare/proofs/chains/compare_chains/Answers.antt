@@ -33,17 +33,17 @@ loop-k-preserved g c =
     let step = hash.step t.origin.hash_key in
     let k = c.loop-k.k in
     let inv = c.loop-k.invariant in
-    let chain = c.compare-chain-chain.ensures in
+    let chain = c.compare_chain-chain.ensures in
     let top : code.top ≡ code.top - 0 = omega arith in
     let here : k ≡ 0 + k = sym (zero-add k) in (
       omega arith,
       omega arith,
-      one-time-more step code.top (λ j. 0) (secret hash t.origin t.leaf) 256 k c.loop-k.ours c.put-string.new.bytes inv.2
-          (c.put-string.ensures.here ∙ chain.ours ∙ ap (λ e. raise step e (secret hash t.origin t.leaf k)) top)
-          c.put-string.ensures.others,
-      one-time-more step code.top (code.digit t.stamp) (string_at t.row) 256 k c.loop-k.theirs c.put-string-in-loop-k.new.bytes inv.3
-          (c.put-string-in-loop-k.ensures.here ∙ chain.theirs)
-          c.put-string-in-loop-k.ensures.others,
+      one-time-more step code.top (λ j. 0) (secret hash t.origin t.leaf) 256 k c.loop-k.ours c.put_string.new.bytes inv.2
+          (c.put_string.ensures.here ∙ chain.ours ∙ ap (λ e. raise step e (secret hash t.origin t.leaf k)) top)
+          c.put_string.ensures.others,
+      one-time-more step code.top (code.digit t.stamp) (string_at t.row) 256 k c.loop-k.theirs c.put_string-in-loop-k.new.bytes inv.3
+          (c.put_string-in-loop-k.ensures.here ∙ chain.theirs)
+          c.put_string-in-loop-k.ensures.others,
       c.or-broken.ensures
           ∙ (λ i. option_or (inv.4 i) ((chain.broken ∙ ap (height_search hash code t) here) i))
           ∙ sym (first_more (height_search hash code t) 0 k),
@@ -58,7 +58,7 @@ returns g c =
     let code = code_of g.C.Code in
     let t = traced_of c.args.subject.now in
     let step = hash.step t.origin.hash_key in
-    let all : c.loop-k.k ≡ code.count = omega (arith, c.loop-k-test.false, c.loop-k.auto.k-end, c.digit-count-k-end.ensures) in
+    let all : c.loop-k.k ≡ code.count = omega (arith, c.loop-k-test.false, c.loop-k.auto.k-end, c.digit_count-k-end.ensures) in
     let inv = c.loop-k.invariant in
     record {
       ours = λ k h. inv.2 k h ∙ ap (λ n. one_time step n code.top (λ j. 0) (secret hash t.origin t.leaf) k) all;

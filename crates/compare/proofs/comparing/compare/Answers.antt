@@ -18,9 +18,9 @@ use Rattle.compare.proofs.comparing.compare.Goals as goal
 room : (g : given.Over) → 2 ^ g.C.Code.levels ≤ 256
 room g = pow_mono {i = g.C.Code.levels} {j = 8} g.met.C.Code.level_range.1
 
-pub fold-both-leaf-node-requires : goal.fold-both-leaf-node-requires
-fold-both-leaf-node-requires g c =
-    let is = c.level-count.ensures in
+pub fold_both-leaf_node-requires : goal.fold_both-leaf_node-requires
+fold_both-leaf_node-requires g c =
+    let is = c.level_count.ensures in
     let few = g.met.C.Code.level_range in
     let size = ap (λ n. 2 ^ n) is in
     let most = room g in
@@ -33,31 +33,31 @@ fold-both-leaf-node-requires g c =
       theirs = omega arith;
     }
 
-pub climb-to-root-root-requires : goal.climb-to-root-root-requires
-climb-to-root-root-requires g c =
+pub climb_to_root-root-requires : goal.climb_to_root-root-requires
+climb_to_root-root-requires g c =
     let hash = hash_of g.H.ChainHash g.H.TreeHash in
     let code = code_of g.C.Code in
     let t = traced_of c.args.subject.now in
     let h = t.origin.height in
     let most = room g in
-    let ours : ℕ → List ℕ = string_at c.compare-chains-chains.new.ours in
-    let theirs : ℕ → List ℕ = string_at c.compare-chains-chains.new.theirs in
-    let our-row = λ (k : ℕ) (lt : k < 2 ^ code.levels). c.compare-chains-chains.ensures.ours k (omega arith) in
-    let their-row = λ (k : ℕ) (lt : k < 2 ^ code.levels). c.compare-chains-chains.ensures.theirs k (omega arith) in
+    let ours : ℕ → List ℕ = string_at c.compare_chains-chains.new.ours in
+    let theirs : ℕ → List ℕ = string_at c.compare_chains-chains.new.theirs in
+    let our-row = λ (k : ℕ) (lt : k < 2 ^ code.levels). c.compare_chains-chains.ensures.ours k (omega arith) in
+    let their-row = λ (k : ℕ) (lt : k < 2 ^ code.levels). c.compare_chains-chains.ensures.theirs k (omega arith) in
     let top : h ≡ h + 0 = omega arith in
-    let deep : c.level-count.result ≡ code.levels - 0 = c.level-count.ensures ∙ omega arith in
+    let deep : c.level_count.result ≡ code.levels - 0 = c.level_count.ensures ∙ omega arith in
     let here : t.leaf * 2 ^ 0 + 0 ≡ t.leaf = omega arith in
     record {
       tall = c.requires.tall;
       there = c.requires.there;
       row = c.requires.row;
       ours =
-          c.fold-both-leaf-node.ensures.ours
+          c.fold_both-leaf_node.ensures.ours
           ∙ (λ i. node (parent_at hash t.origin) ours (top i) (deep i) 0)
           ∙ our-node hash code t ours theirs our-row their-row 0 0 (omega arith) (omega arith)
           ∙ (λ i. our_node hash code t (sym top i) (here i));
       theirs =
-          c.fold-both-leaf-node.ensures.theirs
+          c.fold_both-leaf_node.ensures.theirs
           ∙ (λ i. node (parent_at hash t.origin) theirs (top i) (deep i) 0)
           ∙ their-node hash code t ours theirs our-row their-row 0 0 (omega arith) (omega arith)
           ∙ (λ i. their_node hash code t (sym top i) (here i));
@@ -70,18 +70,18 @@ returns g c =
     let code = code_of g.C.Code in
     let t = traced_of c.args.subject.now in
     let most = room g in
-    let ours : ℕ → List ℕ = string_at c.compare-chains-chains.new.ours in
-    let theirs : ℕ → List ℕ = string_at c.compare-chains-chains.new.theirs in
-    let our-row = λ (k : ℕ) (lt : k < 2 ^ code.levels). c.compare-chains-chains.ensures.ours k (omega arith) in
-    let their-row = λ (k : ℕ) (lt : k < 2 ^ code.levels). c.compare-chains-chains.ensures.theirs k (omega arith) in
+    let ours : ℕ → List ℕ = string_at c.compare_chains-chains.new.ours in
+    let theirs : ℕ → List ℕ = string_at c.compare_chains-chains.new.theirs in
+    let our-row = λ (k : ℕ) (lt : k < 2 ^ code.levels). c.compare_chains-chains.ensures.ours k (omega arith) in
+    let their-row = λ (k : ℕ) (lt : k < 2 ^ code.levels). c.compare_chains-chains.ensures.theirs k (omega arith) in
     let depth = λ (n : ℕ). first_from (depth_search (hash.pair t.origin.hash_key) t.origin.masks t.origin.height t.leaf n ours theirs) 0 n in
     let nodes =
     c.or.ensures
-    ∙ (λ i. option_or (c.climb-to-root-root.ensures.find i) ((c.fold-both-leaf-node.ensures.find ∙ ap depth c.level-count.ensures) i))
+    ∙ (λ i. option_or (c.climb_to_root-root.ensures.find i) ((c.fold_both-leaf_node.ensures.find ∙ ap depth c.level_count.ensures) i))
     ∙ nodes-all hash code t ours theirs our-row their-row in
-    let is : c.choose-verdict.result ≡ found hash code t = c.choose-verdict.ensures ∙ (λ i. chosen (nodes i) (c.compare-chains-chains.ensures.broken i) (c.compare-chains-chains.ensures.hidden i)) in
+    let is : c.choose-verdict.result ≡ found hash code t = c.choose-verdict.ensures ∙ (λ i. chosen (nodes i) (c.compare_chains-chains.ensures.broken i) (c.compare_chains-chains.ensures.hidden i)) in
     record {
-      root = c.climb-to-root-root.ensures.theirs ∙ sym (their-root hash code t c.requires.there);
+      root = c.climb_to_root-root.ensures.theirs ∙ sym (their-root hash code t c.requires.there);
       verdict = is;
       first = subst (Found hash code t) (sym is) (found_first hash code t);
     }

@@ -19,8 +19,8 @@ loop-left-init g c =
       sym (first-none _ c.args.levels) ∙ ap (first_from _ c.args.levels) none,
     )
 
-pub join-level-find-requires : goal.join-level-find-requires
-join-level-find-requires g c =
+pub join_level-find-requires : goal.join_level-find-requires
+join_level-find-requires g c =
     let left = c.loop-left.left in
     let tall = c.requires.tall in
     let few = c.requires.few in
@@ -64,11 +64,11 @@ loop-left-preserved g c =
     let deep : levels - left ≡ levels - (left - 1 + 1) = omega arith in
     let twice = double-pow (left - 1) left (omega arith) in (
       omega arith,
-      more ours (string_at c.loop-left.ours) (string_at c.join-level-find.new.ours) inv.1 c.join-level-find.ensures.ours,
-      more theirs (string_at c.loop-left.theirs) (string_at c.join-level-find.new.theirs) inv.2 c.join-level-find.ensures.theirs,
+      more ours (string_at c.loop-left.ours) (string_at c.join_level-find.new.ours) inv.1 c.join_level-find.ensures.ours,
+      more theirs (string_at c.loop-left.theirs) (string_at c.join_level-find.new.theirs) inv.2 c.join_level-find.ensures.theirs,
       c.or-found.ensures
           ∙ (λ i. option_or
-          ((c.join-level-find.ensures.find
+          ((c.join_level-find.ensures.find
           ∙ ap (first_from _ 0) one
           ∙ first-moved _ (λ p. child_find pair masks (h + (left - 1)) (c.args.leaf * 2 ^ (left - 1) + p) (node (join pair masks) ours (h + (left - 1) + 1) (levels - (left - 1 + 1)) (2 * p)) (node (join pair masks) ours (h + (left - 1) + 1) (levels - (left - 1 + 1)) (2 * p + 1)) (node (join pair masks) theirs (h + (left - 1) + 1) (levels - (left - 1 + 1)) (2 * p)) (node (join pair masks) theirs (h + (left - 1) + 1) (levels - (left - 1 + 1)) (2 * p + 1))) 0 0 (2 ^ (left - 1))
           (λ p lt j.
@@ -90,7 +90,7 @@ returns g c =
     let depth : ℕ → Option Find = depth_search (g.H.TreeHash.pairs c.args.key.now) c.args.masks.now c.args.height c.args.leaf c.args.levels (string_at c.args.ours.now) (string_at c.args.theirs.now) in
     let inv = c.loop-left.invariant in
     record {
-      ours = c.string-at-our-node.ensures ∙ inv.1 0 (pow_pos c.loop-left.left) ∙ (λ i. node parent (string_at c.args.ours.now) (low i) (all i) 0);
-      theirs = c.string-at-their-node.ensures ∙ inv.2 0 (pow_pos c.loop-left.left) ∙ (λ i. node parent (string_at c.args.theirs.now) (low i) (all i) 0);
+      ours = c.string_at-our_node.ensures ∙ inv.1 0 (pow_pos c.loop-left.left) ∙ (λ i. node parent (string_at c.args.ours.now) (low i) (all i) 0);
+      theirs = c.string_at-their_node.ensures ∙ inv.2 0 (pow_pos c.loop-left.left) ∙ (λ i. node parent (string_at c.args.theirs.now) (low i) (all i) 0);
       find = inv.3 ∙ (λ i. first_from depth (none i) (all i));
     }

@@ -21,15 +21,15 @@ loop-p-preserved g c =
     let ours : ℕ → List ℕ = string_at c.args.ours.now in
     let theirs : ℕ → List ℕ = string_at c.args.theirs.now in
     let at : ℕ → Option Find = λ n. child_find pair masks level (c.args.first + n) (ours (2 * n)) (ours (2 * n + 1)) (theirs (2 * n)) (theirs (2 * n + 1)) in
-    let our = c.children-at-our-children.ensures in
-    let their = c.children-at-their-children.ensures in
-    let above = c.join-both-above.ensures in (
-      joined-more (join pair masks level) ours (string_at c.loop-p.ours) (string_at c.put-string.new.bytes) p inv.0
-          (c.put-string.ensures.here ∙ above.ours ∙ (λ i. join pair masks level (our.left i) (our.right i)))
-          c.put-string.ensures.others,
-      joined-more (join pair masks level) theirs (string_at c.loop-p.theirs) (string_at c.put-string-in-loop-p.new.bytes) p inv.1
-          (c.put-string-in-loop-p.ensures.here ∙ above.theirs ∙ (λ i. join pair masks level (their.left i) (their.right i)))
-          c.put-string-in-loop-p.ensures.others,
+    let our = c.children_at-our_children.ensures in
+    let their = c.children_at-their_children.ensures in
+    let above = c.join_both-above.ensures in (
+      joined-more (join pair masks level) ours (string_at c.loop-p.ours) (string_at c.put_string.new.bytes) p inv.0
+          (c.put_string.ensures.here ∙ above.ours ∙ (λ i. join pair masks level (our.left i) (our.right i)))
+          c.put_string.ensures.others,
+      joined-more (join pair masks level) theirs (string_at c.loop-p.theirs) (string_at c.put_string-in-loop-p.new.bytes) p inv.1
+          (c.put_string-in-loop-p.ensures.here ∙ above.theirs ∙ (λ i. join pair masks level (their.left i) (their.right i)))
+          c.put_string-in-loop-p.ensures.others,
       c.or-found.ensures
           ∙ (λ i. option_or (inv.2 i)
           ((above.find

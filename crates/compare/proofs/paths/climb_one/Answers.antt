@@ -13,8 +13,8 @@ use Rattle.compare.proofs.Beside.{left-child, right_child}
 use Rattle.compare.proofs.Nodes.{our-parent, their-parent}
 use Rattle.compare.proofs.paths.climb_one.Goals as goal
 
-pub grow-node-our-sibling-requires : goal.grow-node-our-sibling-requires
-grow-node-our-sibling-requires g c =
+pub grow_node-our_sibling-requires : goal.grow_node-our_sibling-requires
+grow_node-our_sibling-requires g c =
     let h = c.args.subject.now.origin.now.height in
     let d = h - (c.args.level + 1) in
     let up : h - d ≡ c.args.level + 1 = omega (arith, c.requires.under) in
@@ -37,20 +37,20 @@ returns g c =
     let under = c.requires.under in
     let ours = our_node hash code t (a + 1) in
     let theirs = their_node hash code t (a + 1) in
-    let our-beside : c.grow-node-our-sibling.result ≡ ours (sibling_of position) = c.grow-node-our-sibling.ensures ∙ ap ours c.sibling.ensures in
+    let our-beside : c.grow_node-our_sibling.result ≡ ours (sibling_of position) = c.grow_node-our_sibling.ensures ∙ ap ours c.sibling.ensures in
     let e = h - (a + 1) in
-    let place : c.digit-count.result + (h - a - 1) ≡ code.count + e = omega (arith, c.digit-count.ensures) in
+    let place : c.digit_count.result + (h - a - 1) ≡ code.count + e = omega (arith, c.digit_count.ensures) in
     let level : h - e ≡ a + 1 = omega arith in
-    let their-beside : c.string-at-their-sibling.result ≡ theirs (sibling_of position) =
-    c.string-at-their-sibling.ensures ∙ ap (string_at t.row) place ∙ sym (their-sibling hash code t e (omega arith)) ∙ (λ i. their_node hash code t (level i) (sibling_of (sym c.requires.place i))) in
-    let l = c.children-of-our-children.ensures.left ∙ left-child ours position _ _ c.requires.ours our-beside in
-    let r = c.children-of-our-children.ensures.right ∙ right_child ours position _ _ c.requires.ours our-beside in
-    let l' = c.children-of-their-children.ensures.left ∙ left-child theirs position _ _ c.requires.theirs their-beside in
-    let r' = c.children-of-their-children.ensures.right ∙ right_child theirs position _ _ c.requires.theirs their-beside in
+    let their-beside : c.string_at-their_sibling.result ≡ theirs (sibling_of position) =
+    c.string_at-their_sibling.ensures ∙ ap (string_at t.row) place ∙ sym (their-sibling hash code t e (omega arith)) ∙ (λ i. their_node hash code t (level i) (sibling_of (sym c.requires.place i))) in
+    let l = c.children_of-our_children.ensures.left ∙ left-child ours position _ _ c.requires.ours our-beside in
+    let r = c.children_of-our_children.ensures.right ∙ right_child ours position _ _ c.requires.ours our-beside in
+    let l' = c.children_of-their_children.ensures.left ∙ left-child theirs position _ _ c.requires.theirs their-beside in
+    let r' = c.children_of-their_children.ensures.right ∙ right_child theirs position _ _ c.requires.theirs their-beside in
     let half : b ≡ t.leaf / 2 ^ (h - a) = ap (λ n. n / 2) c.requires.place ∙ shr-shr t.leaf (h - (a + 1)) 1 ∙ ap (λ n. t.leaf / 2 ^ n) (omega arith) in
     let near : b / 2 ^ (a - h) ≡ t.leaf / 2 ^ (h - a) = ap (λ n. b / 2 ^ n) (let e : a - h ≡ 0 = omega arith in e) ∙ omega arith in
     record {
-      ours = c.join-both.ensures.ours ∙ (λ i. parent_at hash t.origin a (l i) (r i)) ∙ sym (our-parent hash code t a b (omega arith));
-      theirs = c.join-both.ensures.theirs ∙ (λ i. parent_at hash t.origin a (l' i) (r' i)) ∙ sym (their-parent hash code t a b (omega arith) near);
-      find = c.join-both.ensures.find ∙ (λ i. child_find (hash.pair t.origin.hash_key) t.origin.masks a b (l i) (r i) (l' i) (r' i));
+      ours = c.join_both.ensures.ours ∙ (λ i. parent_at hash t.origin a (l i) (r i)) ∙ sym (our-parent hash code t a b (omega arith));
+      theirs = c.join_both.ensures.theirs ∙ (λ i. parent_at hash t.origin a (l' i) (r' i)) ∙ sym (their-parent hash code t a b (omega arith) near);
+      find = c.join_both.ensures.find ∙ (λ i. child_find (hash.pair t.origin.hash_key) t.origin.masks a b (l i) (r i) (l' i) (r' i));
     }

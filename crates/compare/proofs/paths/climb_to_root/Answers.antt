@@ -22,8 +22,8 @@ loop-e-init g c =
       sym (first-none (level_search hash code t) (t.origin.height - 0)),
     )
 
-pub climb-one-above-requires : goal.climb-one-above-requires
-climb-one-above-requires g c =
+pub climb_one-above-requires : goal.climb_one-above-requires
+climb_one-above-requires g c =
     let hash = hash_of g.H.ChainHash g.H.TreeHash in
     let code = code_of g.C.Code in
     let t = traced_of c.args.subject.now in
@@ -57,7 +57,7 @@ loop-e-preserved g c =
     let far : e + 1 ≡ h - (h - (e + 1)) = omega arith in
     let inv = c.loop-e.invariant in
     let half : b ≡ t.leaf / 2 ^ (e + 1) = ap (λ n. n / 2) inv.0 ∙ shr-shr t.leaf e 1 in
-    let above = c.climb-one-above.ensures in (
+    let above = c.climb_one-above.ensures in (
       half,
       above.ours ∙ ap (λ a. our_node hash code t a b) up,
       above.theirs ∙ ap (λ a. their_node hash code t a b) up,

@@ -5,13 +5,13 @@ use Rattle.growth.specs.Grown.{parent_at}
 use Rattle.growth.proofs.Trees.{node-up}
 use Rattle.growth.proofs.leaves.+grow_node.Goals as goal
 
-pub grow-node-left-requires : goal.grow-node-left-requires
-grow-node-left-requires g t c κs within =
+pub grow_node-left-requires : goal.grow_node-left-requires
+grow_node-left-requires g t c κs within =
     let twice : 2 ^ (c.args.level + 1) ≡ 2 * 2 ^ c.args.level = ap (λ n. 2 ^ n) (add-one c.args.level) ∙ pow-succ' 2 c.args.level in
     search rules
 
-pub grow-node-right-requires : goal.grow-node-right-requires
-grow-node-right-requires g t c κs within =
+pub grow_node-right-requires : goal.grow_node-right-requires
+grow_node-right-requires g t c κs within =
     let twice : 2 ^ (c.args.level + 1) ≡ 2 * 2 ^ c.args.level = ap (λ n. 2 ^ n) (add-one c.args.level) ∙ pow-succ' 2 c.args.level in
     search rules
 
@@ -21,5 +21,5 @@ returns g t c =
     let code = code_of g.C.Code in
     let o = c.args.origin.now in
     c.parent.ensures
-    ∙ (λ i. parent_at hash o c.args.level (c.grow-node-left.ensures i) (c.grow-node-right.ensures i))
+    ∙ (λ i. parent_at hash o c.args.level (c.grow_node-left.ensures i) (c.grow_node-right.ensures i))
     ∙ sym (node-up hash code o c.args.level c.args.position (omega arith))

@@ -13,10 +13,10 @@ pub loop-k-preserved : goal.loop-k-preserved
 loop-k-preserved g c =
     let step = g.H.ChainHash.steps c.args.origin.now.hash_key in
     let shown = secret (hash_of g.H.ChainHash g.H.TreeHash) c.args.origin.now c.args.leaf in
-    let height : c.top-digit.result ≡ g.C.Code.top - 0 = c.top-digit.ensures ∙ omega arith in (
+    let height : c.top_digit.result ≡ g.C.Code.top - 0 = c.top_digit.ensures ∙ omega arith in (
       omega arith,
-      one-time-more step g.C.Code.top (λ j. 0) shown 256 c.loop-k.k c.loop-k.row c.put-string.new.bytes
+      one-time-more step g.C.Code.top (λ j. 0) shown 256 c.loop-k.k c.loop-k.row c.put_string.new.bytes
           c.loop-k.invariant.1
-          (c.put-string.ensures.here ∙ c.chain-string-top.ensures ∙ ap (λ e. raise step e (shown c.loop-k.k)) height)
-          c.put-string.ensures.others,
+          (c.put_string.ensures.here ∙ c.chain_string-top.ensures ∙ ap (λ e. raise step e (shown c.loop-k.k)) height)
+          c.put_string.ensures.others,
     )

@@ -14,7 +14,7 @@ room g = pow_mono {i = g.C.Code.levels} {j = 8} g.met.C.Code.level_range.1
 
 pub fold-requires : goal.fold-requires
 fold-requires g c =
-    let is = c.level-count.ensures in
+    let is = c.level_count.ensures in
     let few = g.met.C.Code.level_range in
     record {
       masked = omega arith;
@@ -27,8 +27,8 @@ returns g c =
     let hash = hash_of g.H.ChainHash g.H.TreeHash in
     let code = code_of g.C.Code in
     let o = c.args.origin.now in
-    let held : ℕ → List ℕ = string_at c.fill-leaf.new.row in
+    let held : ℕ → List ℕ = string_at c.fill_leaf.new.row in
     c.fold.ensures
-    ∙ ap (λ n. node (parent_at hash o) held o.height n 0) c.level-count.ensures
-    ∙ node-moved (parent_at hash o) held (leaf_string hash code o c.args.leaf) o.height code.levels 0 0 (λ k lt. c.fill-leaf.ensures (0 * 2 ^ code.levels + k) (omega (arith, zero-mul (2 ^ code.levels), room g)))
+    ∙ ap (λ n. node (parent_at hash o) held o.height n 0) c.level_count.ensures
+    ∙ node-moved (parent_at hash o) held (leaf_string hash code o c.args.leaf) o.height code.levels 0 0 (λ k lt. c.fill_leaf.ensures (0 * 2 ^ code.levels + k) (omega (arith, zero-mul (2 ^ code.levels), room g)))
     ∙ leaf-is hash code o c.args.leaf

@@ -13,15 +13,15 @@ loop-position-init g c =
     let none : o.height - o.height ≡ 0 = omega arith in (
       omega arith,
       omega (arith, ap (λ j. (c.args.grown + 1) * 2 ^ j) none),
-      λ held. c.leaf-node-node.ensures,
+      λ held. c.leaf_node-node.ensures,
       c.told-nodes,
       λ held a h lt. held a h ∙ cond-false _ _ _ (and_left _ _ (lt-leb a o.height lt)),
       λ a h. refl,
-      ap (λ s. carry (parent_at hash o) o.height c.args.grown s c.args.nodes.now) c.leaf-node-node.ensures,
+      ap (λ s. carry (parent_at hash o) o.height c.args.grown s c.args.nodes.now) c.leaf_node-node.ensures,
     )
 
-pub overflow-sub-level : goal.overflow-sub-level
-overflow-sub-level g c =
+pub overflow_sub-level : goal.overflow_sub-level
+overflow_sub-level g c =
     not_root (hash_of g.H.ChainHash g.H.TreeHash) (code_of g.C.Code) c.args.origin.now c.args.grown c.loop-position.position c.loop-position.level c.loop-position.invariant.0 c.loop-position.invariant.1 c.requires.room c.loop-position-test.true
 
 pub loop-position-preserved : goal.loop-position-preserved
@@ -37,8 +37,8 @@ loop-position-preserved g c =
     let up : level ≡ level - 1 + 1 = omega arith in
     let even : m - 1 ≡ 2 * (m / 2) = omega arith in
     let other : m ≡ 2 * (m / 2) + 1 = omega arith in
-    let left : Holds hash code o c.args.grown c.args.nodes.now → c.string-at-left.result ≡ node_at hash code o (level - 1 + 1) (2 * (m / 2)) =
-    λ held. c.string-at-left.ensures ∙ inv.5 level (omega arith) ∙ held level (omega (arith, c.requires.tall)) ∙ held-odd hash code o c.args.grown m level inv.0 inv.1 odd ∙ (λ i. node_at hash code o (up i) (even i)) in
+    let left : Holds hash code o c.args.grown c.args.nodes.now → c.string_at-left.result ≡ node_at hash code o (level - 1 + 1) (2 * (m / 2)) =
+    λ held. c.string_at-left.ensures ∙ inv.5 level (omega arith) ∙ held level (omega (arith, c.requires.tall)) ∙ held-odd hash code o c.args.grown m level inv.0 inv.1 odd ∙ (λ i. node_at hash code o (up i) (even i)) in
     let right : Holds hash code o c.args.grown c.args.nodes.now → c.loop-position.node ≡ node_at hash code o (level - 1 + 1) (2 * (m / 2) + 1) = λ held. inv.2 held ∙ (λ i. node_at hash code o (up i) (other i)) in (
       omega arith,
       fills_up hash code o c.args.grown m level inv.0 inv.1 some odd,
@@ -46,11 +46,11 @@ loop-position-preserved g c =
       omega arith,
       λ held a h lt.
           ⊎_elim
-          (λ (more : level < a). c.put-string.ensures.others a (omega arith) ∙ inv.4 held a h more)
-          (λ (less : a ≤ level). let e : a ≡ level = omega arith in ap (string_at c.put-string.new.bytes) e ∙ c.put-string.ensures.here)
+          (λ (more : level < a). c.put_string.ensures.others a (omega arith) ∙ inv.4 held a h more)
+          (λ (less : a ≤ level). let e : a ≡ level = omega arith in ap (string_at c.put_string.new.bytes) e ∙ c.put_string.ensures.here)
           (cases_lt level a),
-      λ a h. c.put-string.ensures.others a (omega arith) ∙ inv.5 a (omega arith),
-      (λ i. carry (parent_at hash o) (level - 1) (m / 2) ((c.parent-joined.ensures ∙ ap (λ l. parent_at hash o (level - 1) l c.loop-position.node) c.string-at-left.ensures) i) (c.put-string.ensures.after i))
+      λ a h. c.put_string.ensures.others a (omega arith) ∙ inv.5 a (omega arith),
+      (λ i. carry (parent_at hash o) (level - 1) (m / 2) ((c.parent-joined.ensures ∙ ap (λ l. parent_at hash o (level - 1) l c.loop-position.node) c.string_at-left.ensures) i) (c.put_string.ensures.after i))
           ∙ sym (carry-odd (parent_at hash o) level m c.loop-position.node c.loop-position.nodes some odd)
           ∙ inv.6,
     )
@@ -65,16 +65,16 @@ returns g c =
     let inv = c.loop-position.invariant in
     let even : m % 2 ≡ 0 = omega (arith, c.loop-position-test.false) in
     record {
-      after = c.put-string-2.ensures.after ∙ sym (carry-even (parent_at hash o) level m c.loop-position.node c.loop-position.nodes c.loop-position-test.false) ∙ inv.6;
+      after = c.put_string-2.ensures.after ∙ sym (carry-even (parent_at hash o) level m c.loop-position.node c.loop-position.nodes c.loop-position-test.false) ∙ inv.6;
       held = λ held a h.
           ⊎_elim
-          (λ (more : level < a). c.put-string-2.ensures.others a (omega arith) ∙ inv.4 held a h more ∙ sym (held_below hash code o c.args.grown m level inv.0 inv.1 a more))
+          (λ (more : level < a). c.put_string-2.ensures.others a (omega arith) ∙ inv.4 held a h more ∙ sym (held_below hash code o c.args.grown m level inv.0 inv.1 a more))
           (λ (less : a ≤ level).
           ⊎_elim
-          (λ (lt : a < level). c.put-string-2.ensures.others a (omega arith) ∙ inv.5 a less ∙ held a h ∙ sym (held-above hash code o c.args.grown m level inv.0 inv.1 even a lt))
+          (λ (lt : a < level). c.put_string-2.ensures.others a (omega arith) ∙ inv.5 a less ∙ held a h ∙ sym (held-above hash code o c.args.grown m level inv.0 inv.1 even a lt))
           (λ (ge : level ≤ a).
           let e : a ≡ level = omega arith in
-          ap (string_at c.put-string-2.new.bytes) e ∙ c.put-string-2.ensures.here ∙ inv.2 held ∙ sym (held-here hash code o c.args.grown m level inv.0 inv.1 even) ∙ ap (held_at hash code o (c.args.grown + 1)) (sym e))
+          ap (string_at c.put_string-2.new.bytes) e ∙ c.put_string-2.ensures.here ∙ inv.2 held ∙ sym (held-here hash code o c.args.grown m level inv.0 inv.1 even) ∙ ap (held_at hash code o (c.args.grown + 1)) (sym e))
           (cases_lt a level))
           (cases_lt level a);
     }

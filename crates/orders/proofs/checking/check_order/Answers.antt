@@ -22,9 +22,9 @@ returns g c =
     let bytes = c.args.bytes.now in
     let verify = verify_rule (hash_of g.H.ChainHash g.H.TreeHash) (code_of g.C.Code) (key_of c.args.key.now) in
     let tail = take_rest bytes 16 in
-    let others = c.split-record.ensures.rest ∙ ap after_record tail in
-    let left : length c.split-record.result.1.now ≤ length bytes - 16 = rw (others, length-drop, length-drop) (omega arith) in
+    let others = c.split_record.ensures.rest ∙ ap after_record tail in
+    let left : length c.split_record.result.1.now ≤ length bytes - 16 = rw (others, length-drop, length-drop) (omega arith) in
     record {
-      first = order-more verify bytes _ _ _ c.if-bytes-lt16.false c.string-at.ensures (c.split-record.ensures.first ∙ ap first_record tail) others c.verify-outcome.result c.verify-outcome.ensures;
+      first = order-more verify bytes _ _ _ c.if-bytes-lt16.false c.string_at.ensures (c.split_record.ensures.first ∙ ap first_record tail) others c.verify-outcome.result c.verify-outcome.ensures;
       fewer = omega arith;
     }

@@ -9,10 +9,10 @@ use Rattle.orders.proofs.checking.check_orders.Goals as goal
 pub loop-rest-preserved : goal.loop-rest-preserved
 loop-rest-preserved g c =
     let verify = verify_rule (hash_of g.H.ChainHash g.H.TreeHash) (code_of g.C.Code) (key_of c.args.key.now) in
-    let pushed = chosen _ _ _ _ c.push.ensures.items (ap is_ok c.in-ok-push.was) in (
-      sofar-more verify c.args.bytes.now c.loop-rest.rest.now c.check-order-outcome.result.1.now (vec_items c.loop-rest.outcomes) (vec_items c.push.new.self) c.check-order-outcome.result.0
-          c.loop-rest.invariant.0 c.check-order-outcome.ensures.first pushed,
-      omega (arith, c.check-order-outcome.ensures.fewer),
+    let pushed = chosen _ _ _ _ c.push.ensures.items (ap is_ok c.in_ok-push.was) in (
+      sofar-more verify c.args.bytes.now c.loop-rest.rest.now c.check_order-outcome.result.1.now (vec_items c.loop-rest.outcomes) (vec_items c.push.new.self) c.check_order-outcome.result.0
+          c.loop-rest.invariant.0 c.check_order-outcome.ensures.first pushed,
+      omega (arith, c.check_order-outcome.ensures.fewer),
     )
 
 pub returns : goal.returns

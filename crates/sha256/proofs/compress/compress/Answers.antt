@@ -6,4 +6,4 @@ pub returns : goal.returns
 unfolding compress
 returns c =
     let s = c.args.s in
-    c.added.ensures ∙ ap (added s) (c.rounds.ensures ∙ ap (rounds 64 0 s) c.message-schedule-schedule.ensures)
+    c.added.ensures ∙ ap (added s) (c.rounds.ensures ∙ ap (rounds 64 0 s) c.message_schedule-schedule.ensures)

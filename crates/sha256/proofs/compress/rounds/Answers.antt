@@ -11,7 +11,7 @@ loop-i-preserved c =
     let i = c.loop-i.i in
     let w = c.args.schedule.now in
     let count : 4 * i + 4 ≡ 4 * (i + 1) = omega arith in
-    c.four-rounds-s.ensures
+    c.four_rounds-s.ensures
     ∙ ap (λ s. rounds 4 (4 * i) s w) c.loop-i.invariant
     ∙ rounds-join (4 * i) 4 0 (4 * i) c.args.start w (omega arith)
     ∙ ap (λ k. rounds k 0 c.args.start w) count

@@ -9,7 +9,7 @@ pub loop-i-preserved : goal.loop-i-preserved
 loop-i-preserved c =
     let i = c.loop-i.i in
     let ws = state_words c.args.s.now in
-    let part = c.to-be-bytes.result in
+    let part = c.to_be_bytes.result in
     let piece : part ≡ big_endian 4 (get_or ws i 0) = search rules in
     let four : length part ≡ 4 = ap length piece in
     let long : length c.put.new.bytes ≡ 32 = search rules in

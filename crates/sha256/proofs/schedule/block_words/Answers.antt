@@ -7,7 +7,7 @@ use Rattle.sha256.proofs.schedule.block_words.Goals as goal
 pub loop-t-preserved : goal.loop-t-preserved
 loop-t-preserved c = (
   length-set c.loop-t.w c.loop-t.t _ ∙ c.loop-t.invariant.0,
-  filled_more (word_at c.args.block.now) c.loop-t.w c.loop-t.t c.word-at.result (omega arith) c.word-at.ensures c.loop-t.invariant.1,
+  filled_more (word_at c.args.block.now) c.loop-t.w c.loop-t.t c.word_at.result (omega arith) c.word_at.ensures c.loop-t.invariant.1,
 )
 
 pub returns : goal.returns

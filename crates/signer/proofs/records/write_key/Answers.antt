@@ -7,15 +7,15 @@ pub returns : goal.returns
 returns c =
     let n = length c.args.masks.now in
     let names = c.args.names.now in
-    let key = c.args.hash-key.now in
+    let key = c.args.hash_key.now in
     let masks = c.args.masks.now in
     let root = c.args.root.now in
-    let len = c.to-le-bytes.result in
-    let kind = c.to-le-bytes-2.result in
+    let len = c.to_le_bytes.result in
+    let kind = c.to_le_bytes-2.result in
     let first : len ≡ little_endian 4 (42 + n) = search rules in
     let same : 42 + n - 42 ≡ n = omega arith in
     six-parts c.args.out.now c.put.new.bytes c.put-2.new.bytes c.put-3.new.bytes c.put-4.new.bytes c.put-5.new.bytes c.put-6.new.bytes
     len kind names key masks root (42 + n) (omega arith) c.requires.room
-    (ap length c.to-le-bytes.ensures) (ap length c.to-le-bytes-2.ensures) c.told-names c.told-hash-key (omega arith) c.told-root
+    (ap length c.to_le_bytes.ensures) (ap length c.to_le_bytes-2.ensures) c.told-names c.told-hash_key (omega arith) c.told-root
     (c.put.ensures.front, c.put.ensures.back) (c.put-2.ensures.front, c.put-2.ensures.back) (c.put-3.ensures.front, c.put-3.ensures.back) (c.put-4.ensures.front, c.put-4.ensures.back) (c.put-5.ensures.front, c.put-5.ensures.back) (c.put-6.ensures.front, c.put-6.ensures.back)
-    ∙ ap (λ p. p ++ drop (42 + n) c.args.out.now) (framed_is len kind names key masks root (42 + n) 1 (four-long names key masks root n c.told-names c.told-hash-key (omega arith) c.told-root) first c.to-le-bytes-2.ensures)
+    ∙ ap (λ p. p ++ drop (42 + n) c.args.out.now) (framed_is len kind names key masks root (42 + n) 1 (four-long names key masks root n c.told-names c.told-hash_key (omega arith) c.told-root) first c.to_le_bytes-2.ensures)

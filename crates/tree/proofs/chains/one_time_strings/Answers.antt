@@ -12,8 +12,8 @@ pub loop-k-preserved : goal.loop-k-preserved
 loop-k-preserved g c =
     let step = g.H.ChainHash.steps c.args.key.now in (
       omega arith,
-      one-time-more step g.C.Code.top (g.C.Code.digits c.args.stamp.now) (string_at c.args.shown.now) 256 c.loop-k.k c.loop-k.row c.put-string.new.bytes
+      one-time-more step g.C.Code.top (g.C.Code.digits c.args.stamp.now) (string_at c.args.shown.now) 256 c.loop-k.k c.loop-k.row c.put_string.new.bytes
           c.loop-k.invariant.1
-          (c.put-string.ensures.here ∙ c.climb-to-top-top.ensures ∙ ap (raise step _) c.string-at.ensures)
-          c.put-string.ensures.others,
+          (c.put_string.ensures.here ∙ c.climb_to_top-top.ensures ∙ ap (raise step _) c.string_at.ensures)
+          c.put_string.ensures.others,
     )

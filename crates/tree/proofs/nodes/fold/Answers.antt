@@ -8,8 +8,8 @@ pub loop-left-init : goal.loop-left-init
 loop-left-init g c =
     (omega arith, λ k h. fold-none (join (g.H.TreeHash.pairs c.args.key.now) c.args.masks.now) (string_at c.args.row.now) (c.args.level + c.args.levels) c.args.levels k)
 
-pub fold-level-requires : goal.fold-level-requires
-fold-level-requires g c =
+pub fold_level-requires : goal.fold_level-requires
+fold_level-requires g c =
     let left = c.loop-left.left in
     record {
       masked = omega arith;
@@ -21,18 +21,18 @@ loop-left-preserved g c =
     let left = c.loop-left.left in (
       omega arith,
       fold_more (join (g.H.TreeHash.pairs c.args.key.now) c.args.masks.now) (string_at c.args.row.now)
-          (string_at c.loop-left.row) (string_at c.fold-level.new.row) (2 ^ (left - 1)) (2 ^ left)
+          (string_at c.loop-left.row) (string_at c.fold_level.new.row) (2 ^ (left - 1)) (2 ^ left)
           (c.args.level + (left - 1)) (c.args.levels - left) (c.args.level + left) (c.args.levels - (left - 1))
           (omega arith) (omega arith) (double-pow (left - 1) left (omega arith))
           c.loop-left.invariant.1
-          (λ k h. c.fold-level.ensures k (omega (arith, shift_one (left - 1) (omega arith)))),
+          (λ k h. c.fold_level.ensures k (omega (arith, shift_one (left - 1) (omega arith)))),
     )
 
 pub returns : goal.returns
 returns g c =
     let row = node (join (g.H.TreeHash.pairs c.args.key.now) c.args.masks.now) (string_at c.args.row.now) in
     let none : c.loop-left.left ≡ 0 = omega arith in
-    c.string-at.ensures
+    c.string_at.ensures
     ∙ c.loop-left.invariant.1 0 (pow_pos c.loop-left.left)
     ∙ ap (λ n. row (c.args.level + n) (c.args.levels - n) 0) none
     ∙ (λ i. row (let e : c.args.level + 0 ≡ c.args.level = omega arith in e i) (let e : c.args.levels - 0 ≡ c.args.levels = omega arith in e i) 0)

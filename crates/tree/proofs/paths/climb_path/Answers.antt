@@ -10,8 +10,8 @@ loop-e-preserved g c =
     let sibling : ℕ → List ℕ = λ a. string_at c.args.row.now (c.args.first + (c.args.height - a)) in
     let e = c.loop-e.e in
     let place : c.args.first + e ≡ c.args.first + (c.args.height - (c.args.height - e)) = omega arith in
-    climb-turn parent sibling c.args.height e c.loop-e.position c.loop-e.at c.parent-above-above.result (omega arith)
-    (c.parent-above-above.ensures ∙ ap (above parent (c.args.height - e - 1) c.loop-e.position c.loop-e.at) (c.string-at-sibling.ensures ∙ ap (string_at c.args.row.now) place))
+    climb-turn parent sibling c.args.height e c.loop-e.position c.loop-e.at c.parent_above-above.result (omega arith)
+    (c.parent_above-above.ensures ∙ ap (above parent (c.args.height - e - 1) c.loop-e.position c.loop-e.at) (c.string_at-sibling.ensures ∙ ap (string_at c.args.row.now) place))
     ∙ c.loop-e.invariant
 
 pub returns : goal.returns

@@ -20,12 +20,12 @@ whole g bytes r typed is =
     subst (ReadsKeys _ _ _ bytes) (sym is)
     (reads-keys g.H.ChainHash.numbered g.C.Code.number g.C.Code.levels bytes g.met.C.Code.level_range.1 (bytes-from bytes typed))
 
-pub returns-in-err-body : goal.returns-in-err-body
-returns-in-err-body g c =
+pub returns-in_err-body : goal.returns-in_err-body
+returns-in_err-body g c =
     let bytes = c.args.bytes.now in
     let p = err_from_is_err_and c.from-residual.result c.from-residual.ensures.1 in
     let is : seen key_of c.from-residual.result ≡ open_rule g.H.ChainHash.numbered g.C.Code.number g.C.Code.levels bytes =
-    broken key_of c.from-residual.result p.0 c.in-err-body.field-0.0 (header_rule 1 bytes) _ p.1 p.2 c.in-err-body.ensures in
+    broken key_of c.from-residual.result p.0 c.in_err-body.field-0.0 (header_rule 1 bytes) _ p.1 p.2 c.in_err-body.ensures in
     record { answer = is; reads = whole g bytes _ c.type-inv.bytes is }
 
 -- what is read past the header
@@ -70,8 +70,8 @@ module _ (bytes body : List ℕ) (hash code levels : ℕ) (read : Ok body ≡ he
 pub returns-then-height-lt1 : goal.returns-then-height-lt1
 returns-then-height-lt1 g c =
     let bytes = c.args.bytes.now in
-    let body = c.in-ok-body.body.now in
-    let read = c.in-ok-body.ensures in
+    let body = c.in_ok-body.body.now in
+    let read = c.in_ok-body.ensures in
     let h = body_at 1 bytes body 2 read in
     let s = body_at 1 bytes body 3 read in
     let bad : bad_height bytes ≡ true =
@@ -80,23 +80,23 @@ returns-then-height-lt1 g c =
       | then-height-lt1-via-else-height-lt1+then-height-gt8 w ↦ or_right (ltb (height_of bytes) 1) _ (or_left _ _ (lt-ltb 8 (height_of bytes) (omega (arith, w.if-height-gt8.true))))
       | then-height-lt1-via-else-height-lt1+else-height-gt8+then-body-ne0 w ↦ or_right (ltb (height_of bytes) 1) _ (or_right (ltb 8 (height_of bytes)) _ (differ-to (spare_of bytes) 0 (λ e. w.if-body-ne0.true (s ∙ e))))
     ] in
-    let is = too-high bytes body g.H.ChainHash.numbered g.C.Code.number g.C.Code.levels read (c.if-body-hash-number.false ∙ c.hash-number.ensures) (c.if-body-code-number.false ∙ c.code-number.ensures) bad in
+    let is = too-high bytes body g.H.ChainHash.numbered g.C.Code.number g.C.Code.levels read (c.if-body-hash_number.false ∙ c.hash_number.ensures) (c.if-body-code_number.false ∙ c.code_number.ensures) bad in
     record { answer = is; reads = whole g bytes _ c.type-inv.bytes is }
 
 pub returns-then-bytes-height : goal.returns-then-bytes-height
 returns-then-bytes-height g c =
     let bytes = c.args.bytes.now in
-    let body = c.in-ok-body.body.now in
-    let levels = c.level-count.ensures in
-    let is = misfit bytes body g.H.ChainHash.numbered g.C.Code.number g.C.Code.levels c.in-ok-body.ensures (c.if-body-hash-number.false ∙ c.hash-number.ensures) (c.if-body-code-number.false ∙ c.code-number.ensures)
+    let body = c.in_ok-body.body.now in
+    let levels = c.level_count.ensures in
+    let is = misfit bytes body g.H.ChainHash.numbered g.C.Code.number g.C.Code.levels c.in_ok-body.ensures (c.if-body-hash_number.false ∙ c.hash_number.ensures) (c.if-body-code_number.false ∙ c.code_number.ensures)
     c.if-height-lt1.false c.if-height-gt8.false c.if-body-ne0.false (λ e. c.if-bytes-height.true (e ∙ omega arith)) in
     record { answer = is; reads = whole g bytes _ c.type-inv.bytes is }
 
 pub returns : goal.returns
 returns g c =
     let bytes = c.args.bytes.now in
-    let body = c.in-ok-body.body.now in
-    let levels = c.level-count.ensures in
-    let is = fits bytes body g.H.ChainHash.numbered g.C.Code.number g.C.Code.levels c.in-ok-body.ensures (c.if-body-hash-number.false ∙ c.hash-number.ensures) (c.if-body-code-number.false ∙ c.code-number.ensures)
+    let body = c.in_ok-body.body.now in
+    let levels = c.level_count.ensures in
+    let is = fits bytes body g.H.ChainHash.numbered g.C.Code.number g.C.Code.levels c.in_ok-body.ensures (c.if-body-hash_number.false ∙ c.hash_number.ensures) (c.if-body-code_number.false ∙ c.code_number.ensures)
     c.if-height-lt1.false c.if-height-gt8.false c.if-body-ne0.false (c.if-bytes-height.false ∙ omega arith) in
     record { answer = is; reads = whole g bytes _ c.type-inv.bytes is }

@@ -20,20 +20,20 @@ whole g key bytes r typed is suits =
     subst (ReadsReleases _ _ bytes) (sym is)
     (reads-releases g.H.ChainHash.numbered (code_of g.C.Code) key bytes few (bytes-from bytes typed) suits)
 
-pub returns-in-err-body : goal.returns-in-err-body
-returns-in-err-body g c =
+pub returns-in_err-body : goal.returns-in_err-body
+returns-in_err-body g c =
     let key = key_of c.args.key.now in
     let bytes = c.args.bytes.now in
     let p = err_from_is_err_and c.from-residual.result c.from-residual.ensures.1 in
     let is : seen shown_by c.from-residual.result ≡ read_rule g.H.ChainHash.numbered (code_of g.C.Code) key bytes =
-    broken shown_by c.from-residual.result p.0 c.in-err-body.field-0.0 (header_rule 2 bytes) _ p.1 p.2 c.in-err-body.ensures in
+    broken shown_by c.from-residual.result p.0 c.in_err-body.field-0.0 (header_rule 2 bytes) _ p.1 p.2 c.in_err-body.ensures in
     record { answer = is; reads = whole g key bytes _ c.type-inv.bytes is }
 
-pub parts-of-requires : goal.parts-of-requires
-parts-of-requires g c =
+pub parts_of-requires : goal.parts_of-requires
+parts_of-requires g c =
     let key = key_of c.args.key.now in
     let suits = suited-to g.H.ChainHash.numbered g.C.Code.number g.C.Code.levels key (sym c.if-not-suits.ensures.answer) in
-    let read = continued 2 c.args.bytes.now c.in-ok-body.body.now c.in-ok-body.ensures in
+    let read = continued 2 c.args.bytes.now c.in_ok-body.body.now c.in_ok-body.ensures in
     record { tall = omega (arith, suits.0.tall, suits.1); long = read.0.long; rest = read.1 }
 
 pub returns : goal.returns
@@ -41,9 +41,9 @@ returns g c =
     let key = key_of c.args.key.now in
     let bytes = c.args.bytes.now in
     let suits = sym c.if-not-suits.ensures.answer in
-    let is : seen shown_by c.parts-of.result ≡ read_rule g.H.ChainHash.numbered (code_of g.C.Code) key bytes =
-    c.parts-of.ensures
+    let is : seen shown_by c.parts_of.result ≡ read_rule g.H.ChainHash.numbered (code_of g.C.Code) key bytes =
+    c.parts_of.ensures
     ∙ sym
-    (after-at (header_rule 2 bytes) (drop 6 bytes) _ (header-from 2 bytes (continued 2 bytes c.in-ok-body.body.now c.in-ok-body.ensures).0)
+    (after-at (header_rule 2 bytes) (drop 6 bytes) _ (header-from 2 bytes (continued 2 bytes c.in_ok-body.body.now c.in_ok-body.ensures).0)
     ∙ goes (not (suited g.H.ChainHash.numbered g.C.Code.number g.C.Code.levels key)) Parameters _ (not_from_true _ suits)) in
     record { answer = is; reads = whole g key bytes _ c.type-inv.bytes is }

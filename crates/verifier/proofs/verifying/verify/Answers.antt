@@ -52,46 +52,46 @@ module _ (hash : Hash) (code : Code) (key : Key) (stamp bytes : List ℕ) (shown
   compared hash_key masks root shown_root k m r s =
       λ i. bytes_eq ((s ∙ (λ j. rebuilt hash code (k j) (m j) key.height shown.leaf stamp shown.row)) i) (r i)
 
-pub string-at-hash-key-requires : goal.string-at-hash-key-requires
-string-at-hash-key-requires g c =
-    omega (arith, ap length c.hash-key.ensures, hash-key-laid g.H.ChainHash.numbered (code_of g.C.Code) (key_of c.args.key.now) c.args.bytes.now _ c.in-ok-release.ensures.answer)
+pub string_at-hash_key-requires : goal.string_at-hash_key-requires
+string_at-hash_key-requires g c =
+    omega (arith, ap length c.hash_key.ensures, hash-key-laid g.H.ChainHash.numbered (code_of g.C.Code) (key_of c.args.key.now) c.args.bytes.now _ c.in_ok-release.ensures.answer)
 
-pub rebuild-root-root-requires : goal.rebuild-root-root-requires
-rebuild-root-root-requires g c =
+pub rebuild_root-root-requires : goal.rebuild_root-root-requires
+rebuild_root-root-requires g c =
     let hash = g.H.ChainHash.numbered in
     let code = code_of g.C.Code in
     let key = key_of c.args.key.now in
-    let read = c.in-ok-release.ensures.answer in
+    let read = c.in_ok-release.ensures.answer in
     record {
       masked = omega (arith, ap length c.masks.ensures, masks-laid hash code key c.args.bytes.now _ read);
       within = omega (arith, row_laid hash code key c.args.bytes.now _ read);
     }
 
-pub string-at-wanted-requires : goal.string-at-wanted-requires
-string-at-wanted-requires g c =
-    omega (arith, ap length c.root.ensures, root-laid g.H.ChainHash.numbered (code_of g.C.Code) (key_of c.args.key.now) c.args.bytes.now _ c.in-ok-release.ensures.answer)
+pub string_at-wanted-requires : goal.string_at-wanted-requires
+string_at-wanted-requires g c =
+    omega (arith, ap length c.root.ensures, root-laid g.H.ChainHash.numbered (code_of g.C.Code) (key_of c.args.key.now) c.args.bytes.now _ c.in_ok-release.ensures.answer)
 
 -- what the comparison answered is what the rule compares
-told : (g : given.Over) (c : After-same g) → c.same.result ≡ bytes_eq (root_shown (hash_of g.H.ChainHash g.H.TreeHash) (code_of g.C.Code) (key_of c.args.key.now) c.args.stamp.now (shown_by c.in-ok-release.release)) (root_of c.args.key.now.bytes.now)
+told : (g : given.Over) (c : After-same g) → c.same.result ≡ bytes_eq (root_shown (hash_of g.H.ChainHash g.H.TreeHash) (code_of g.C.Code) (key_of c.args.key.now) c.args.stamp.now (shown_by c.in_ok-release.release)) (root_of c.args.key.now.bytes.now)
 told g c =
     let hash = hash_of g.H.ChainHash g.H.TreeHash in
     let code = code_of g.C.Code in
     let key = key_of c.args.key.now in
     let bytes = c.args.bytes.now in
-    let shown = shown_by c.in-ok-release.release in
-    let read = c.in-ok-release.ensures.answer in
-    let keyed = c.string-at-hash-key.ensures ∙ alone (hash_key_of key.bytes) _ c.hash-key.ensures (hash-key-laid hash.number code key bytes shown read) in
-    let rooted = c.string-at-wanted.ensures ∙ alone (root_of key.bytes) _ c.root.ensures (root-laid hash.number code key bytes shown read) in
-    c.same.ensures.value ∙ compared hash code key c.args.stamp.now bytes shown read _ _ _ _ keyed c.masks.ensures rooted c.rebuild-root-root.ensures
+    let shown = shown_by c.in_ok-release.release in
+    let read = c.in_ok-release.ensures.answer in
+    let keyed = c.string_at-hash_key.ensures ∙ alone (hash_key_of key.bytes) _ c.hash_key.ensures (hash-key-laid hash.number code key bytes shown read) in
+    let rooted = c.string_at-wanted.ensures ∙ alone (root_of key.bytes) _ c.root.ensures (root-laid hash.number code key bytes shown read) in
+    c.same.ensures.value ∙ compared hash code key c.args.stamp.now bytes shown read _ _ _ _ keyed c.masks.ensures rooted c.rebuild_root-root.ensures
 
 pub returns-then-not-same : goal.returns-then-not-same
 returns-then-not-same g c =
     let same = told g (goal.at.returns-then-not-same g c).After-same in
-    sym (verdict (hash_of g.H.ChainHash g.H.TreeHash) (code_of g.C.Code) (key_of c.args.key.now) c.args.stamp.now c.args.bytes.now (shown_by c.in-ok-release.release) c.in-ok-release.ensures.answer
+    sym (verdict (hash_of g.H.ChainHash g.H.TreeHash) (code_of g.C.Code) (key_of c.args.key.now) c.args.stamp.now c.args.bytes.now (shown_by c.in_ok-release.release) c.in_ok-release.ensures.answer
     ∙ cond-true _ _ _ (not_from_false _ (sym same ∙ c.if-not-same.true)))
 
 pub returns : goal.returns
 returns g c =
     let same = told g (goal.at.returns g c).After-same in
-    sym (verdict (hash_of g.H.ChainHash g.H.TreeHash) (code_of g.C.Code) (key_of c.args.key.now) c.args.stamp.now c.args.bytes.now (shown_by c.in-ok-release.release) c.in-ok-release.ensures.answer
+    sym (verdict (hash_of g.H.ChainHash g.H.TreeHash) (code_of g.C.Code) (key_of c.args.key.now) c.args.stamp.now c.args.bytes.now (shown_by c.in_ok-release.release) c.in_ok-release.ensures.answer
     ∙ cond-false _ _ _ (not_from_true _ (sym same ∙ c.if-not-same.false)))

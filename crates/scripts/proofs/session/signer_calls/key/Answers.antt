@@ -7,8 +7,8 @@ use Rattle.scripts.proofs.session.signer_calls.key.Goals as goal
 
 pub returns : goal.returns
 returns g c =
-    let out = c.in-ok-out.out in
+    let out = c.in_ok-out.out in
     let ws = c.key-size.new.out in
-    let long : length ws ≡ out.len = omega (arith, c.as-mut-slice.ensures.len, c.key-size.auto.out) in
-    key-told (hash_of g.H.ChainHash g.H.TreeHash) (code_of g.C.Code) (signing_of c.args.signer.now) (told c.key-answer.result) out.len c.args.room ws out.items c.as-mut-slice.result.now c.key-size.result
-    c.key-answer.ensures long c.key-size.ensures.output c.key-size.ensures.answer (c.as-mut-slice.ensures.value ∙ c.in-ok-out.ensures)
+    let long : length ws ≡ out.len = omega (arith, c.as_mut_slice.ensures.len, c.key-size.auto.out) in
+    key-told (hash_of g.H.ChainHash g.H.TreeHash) (code_of g.C.Code) (signing_of c.args.signer.now) (told c.key_answer.result) out.len c.args.room ws out.items c.as_mut_slice.result.now c.key-size.result
+    c.key_answer.ensures long c.key-size.ensures.output c.key-size.ensures.answer (c.as_mut_slice.ensures.value ∙ c.in_ok-out.ensures)

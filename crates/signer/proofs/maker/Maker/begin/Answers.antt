@@ -13,16 +13,16 @@ pub returns : goal.returns
 returns g c =
     let hash = hash_of g.H.ChainHash g.H.TreeHash in
     let code = code_of g.C.Code in
-    let o : Origin = record { seed = c.args.seed; hash_key = c.args.hash-key; masks = c.args.masks; height = c.args.plan.height } in
-    let state : _ ≡ begin_rule o = ap (λ h. begin_rule (record { seed = c.args.seed; hash_key = c.args.hash-key; masks = c.args.masks; height = h })) c.height-height.ensures in
+    let o : Origin = record { seed = c.args.seed; hash_key = c.args.hash_key; masks = c.args.masks; height = c.args.plan.height } in
+    let state : _ ≡ begin_rule o = ap (λ h. begin_rule (record { seed = c.args.seed; hash_key = c.args.hash_key; masks = c.args.masks; height = h })) c.height-height.ensures in
     let seed-long : length c.args.seed ≡ 16 = search rules in
-    let key-long : length c.args.hash-key ≡ 16 = search rules in
+    let key-long : length c.args.hash_key ≡ 16 = search rules in
     let masks-long : length c.args.masks ≡ 512 = search rules in
-    let small : (i : ℕ) → (get_or c.args.seed i 0 < 256) × (get_or c.args.hash-key i 0 < 256) × (get_or c.args.masks i 0 < 256) = search rules in
+    let small : (i : ℕ) → (get_or c.args.seed i 0 < 256) × (get_or c.args.hash_key i 0 < 256) × (get_or c.args.masks i 0 < 256) = search rules in
     let given : Begun o = record {
       tall = c.args.plan.tall;
       seeded = str-from c.args.seed seed-long (λ i. (small i).0);
-      keyed = str-from c.args.hash-key key-long (λ i. (small i).1);
+      keyed = str-from c.args.hash_key key-long (λ i. (small i).1);
       masked = (masks-long, All-from_get_or (λ b. b < 256) c.args.masks 0 (λ i below. (small i).2));
     } in
     record {

@@ -27,11 +27,11 @@ returns g c =
     let code = code_of g.C.Code in
     let m = making_of c.args.self.now in
     let answer : Ok (m.grown + 1) ≡ grow_answer m = search rules in
-    let state : record { origin = m.origin; grown = m.grown + 1; nodes = c.add-leaf.new.nodes } ≡ grow_leaves hash code m = search rules in
+    let state : record { origin = m.origin; grown = m.grown + 1; nodes = c.add_leaf.new.nodes } ≡ grow_leaves hash code m = search rules in
     record {
       answer = answer;
       state = state;
-      held = c.add-leaf.ensures.held;
+      held = c.add_leaf.ensures.held;
       lived = grow-continues hash code m _ (Ok (m.grown + 1)) answer state;
       wiped = c.drop-guard-2.ensures;
     }

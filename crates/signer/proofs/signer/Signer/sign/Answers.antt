@@ -67,7 +67,7 @@ returns-then-out-size g c =
     let s = signing_of c.args.self.now in
     let out = c.args.out.now in
     let tall = c.args.self.now.tall in
-    let is = c.digit-count.ensures in
+    let is = c.digit_count.ensures in
     let shift = one_shl s.origin.height 16 (omega arith) in
     let left : all_spent s ≡ false = ne_eqb s.next (2 ^ s.origin.height) (λ e. c.if-leaf-self.false (e ∙ sym shift)) in
     let short : no_room code s out ≡ true = lt-ltb (length out) (release_size code s) (omega (arith, c.if-out-size.true)) in
@@ -92,15 +92,15 @@ returns g c =
     let s = signing_of c.args.self.now in
     let out = c.args.out.now in
     let tall = c.args.self.now.tall in
-    let is = c.digit-count.ensures in
+    let is = c.digit_count.ensures in
     let shift = one_shl s.origin.height 16 (omega arith) in
-    let size : 8 + 16 * (c.digit-count.result + s.origin.height) ≡ release_size code s = omega arith in
+    let size : 8 + 16 * (c.digit_count.result + s.origin.height) ≡ release_size code s = omega arith in
     let left : all_spent s ≡ false = ne_eqb s.next (2 ^ s.origin.height) (λ e. c.if-leaf-self.false (e ∙ sym shift)) in
     let room : no_room code s out ≡ false = le-ltb (length out) (release_size code s) (omega (arith, c.if-out-size.false)) in
     let goes = or_from (all_spent s) (no_room code s out) left room in
     let answer = ap {B = Result (ℕ × ℕ) Refusal} (λ n. Ok (n, s.next)) size ∙ sym (cond-false (all_spent s) (Err Spent) _ left ∙ cond-false (no_room code s out) (Err Output) _ room) in
     let state = (λ i. record { origin = s.origin; root = s.root; next = s.next + 1; rows = c.enter.ensures i }) ∙ sym (cond-false (all_spent s || no_room code s out) s _ goes) in
-    let output = c.write-release.ensures ∙ sym (cond-false (all_spent s || no_room code s out) out _ goes) in
+    let output = c.write_release.ensures ∙ sym (cond-false (all_spent s || no_room code s out) out _ goes) in
     record {
       answer = answer;
       state = state;

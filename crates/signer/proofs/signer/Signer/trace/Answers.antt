@@ -45,8 +45,8 @@ keeps g s stamp bytes report str small r after p q o w x holds lived =
     } in
     subst (λ a. Promise hash code w s stamp bytes a after) (sym p) (subst (Promise hash code w s stamp bytes (trace_answer hash code s stamp bytes)) (sym q) (promised laws o w x s lived holds stamp bytes report str small))
 
-pub returns-in-err-release : goal.returns-in-err-release
-returns-in-err-release g c =
+pub returns-in_err-release : goal.returns-in_err-release
+returns-in_err-release g c =
     let hash = hash_of g.H.ChainHash g.H.TreeHash in
     let code = code_of g.C.Code in
     let s = signing_of c.args.self.now in
@@ -54,8 +54,8 @@ returns-in-err-release g c =
     let bytes = c.args.bytes.now in
     let report = c.args.report.now in
     let p = err_from_is_err_and c.from-residual.result c.from-residual.ensures.1 in
-    let e = c.in-err-release.field-0.0 in
-    let is = unread hash code s stamp bytes report (reads g c.args.self.now stamp bytes report) e c.in-err-release.ensures in
+    let e = c.in_err-release.field-0.0 in
+    let is = unread hash code s stamp bytes report (reads g c.args.self.now stamp bytes report) e c.in_err-release.ensures in
     let same : c.from-residual.result ≡ Err e = p.1 ∙ ap Err p.2 in
     let answer = same ∙ refused-answer hash code s stamp bytes report e is in
     let after = refused-report hash code s stamp bytes report e is in
@@ -76,7 +76,7 @@ returns-then-not-same g c =
     let stamp = c.args.stamp.now in
     let bytes = c.args.bytes.now in
     let report = c.args.report.now in
-    let is = misled hash code s stamp bytes report (reads g c.args.self.now stamp bytes report) (shown_by c.in-ok-release.release) c.in-ok-release.ensures c.compare-compared.result.root c.compare-compared.ensures.root (sym c.if-not-same.ensures.value) in
+    let is = misled hash code s stamp bytes report (reads g c.args.self.now stamp bytes report) (shown_by c.in_ok-release.release) c.in_ok-release.ensures c.compare-compared.result.root c.compare-compared.ensures.root (sym c.if-not-same.ensures.value) in
     let answer = refused-answer hash code s stamp bytes report Root is in
     let after = refused-report hash code s stamp bytes report Root is in
     record {
@@ -96,10 +96,10 @@ returns g c =
     let stamp = c.args.stamp.now in
     let bytes = c.args.bytes.now in
     let report = c.args.report.now in
-    let shown = shown_by c.in-ok-release.release in
+    let shown = shown_by c.in_ok-release.release in
     let read = reads g c.args.self.now stamp bytes report in
-    let is = led hash code s stamp bytes report read shown c.in-ok-release.ensures c.compare-compared.result.root c.compare-compared.ensures.root (sym c.if-not-same.ensures.value) in
-    let row = row_read hash code s stamp bytes report read shown c.in-ok-release.ensures c.compare-compared.result.root c.compare-compared.ensures.root in
+    let is = led hash code s stamp bytes report read shown c.in_ok-release.ensures c.compare-compared.result.root c.compare-compared.ensures.root (sym c.if-not-same.ensures.value) in
+    let row = row_read hash code s stamp bytes report read shown c.in_ok-release.ensures c.compare-compared.result.root c.compare-compared.ensures.root in
     let i = shown.leaf in
     let v = c.compare-compared.result.verdict in
     let finds = c.compare-compared.ensures.verdict ∙ (λ j. found hash code (record { origin = s.origin; entered = c.row.ensures j; stamp = stamp; leaf = i; row = row j })) in
