@@ -21,7 +21,7 @@ fn verify_by_code<H: TreeHash>(
     stamp: &[u8; 16],
     record: &[u8],
 ) -> Result<usize, Refusal>
-    ensures { result ≡ numbered (Some (hash_of H.ChainHash H.TreeHash)) (code_numbered code) (Err Parameters) (λ h c. verified h c key.now stamp.now «record».now) }
+    ensures { result ≡ numbered (Some (hash_of H.ChainHash H.TreeHash.own)) (code_numbered code) (Err Parameters) (λ h c. verified h c key.now stamp.now «record».now) }
 {
     match code {
         LamportDiffie::NUMBER => verify_with::<H, LamportDiffie>(key, stamp, record),
@@ -58,8 +58,8 @@ fn grow_by_code<H: TreeHash>(
     level: u8,
     node: &mut [u8; 16],
 ) -> Result<(usize, u16), Refusal>
-    ensures answer { result ≡ numbered (Some (hash_of H.ChainHash H.TreeHash)) (code_numbered code) (Err Parameters) (λ h c. grown h c source.now leaves level) }
-    ensures output { node.new ≡ numbered (Some (hash_of H.ChainHash H.TreeHash)) (code_numbered code) node.old (λ h c. grown_node h c source.now leaves level node.old) }
+    ensures answer { result ≡ numbered (Some (hash_of H.ChainHash H.TreeHash.own)) (code_numbered code) (Err Parameters) (λ h c. grown h c source.now leaves level) }
+    ensures output { node.new ≡ numbered (Some (hash_of H.ChainHash H.TreeHash.own)) (code_numbered code) node.old (λ h c. grown_node h c source.now leaves level node.old) }
 {
     match code {
         LamportDiffie::NUMBER => grow_with::<H, LamportDiffie>(source, leaves, level, node),
@@ -97,8 +97,8 @@ fn key_by_code<H: TreeHash>(
     turns: u32,
     out: &mut [u8],
 ) -> Result<usize, Refusal>
-    ensures answer { result ≡ numbered (Some (hash_of H.ChainHash H.TreeHash)) (code_numbered code) (Err Parameters) (λ h c. keyed h c source.now turns out.old) }
-    ensures output { out.new ≡ numbered (Some (hash_of H.ChainHash H.TreeHash)) (code_numbered code) out.old (λ h c. keyed_output h c source.now turns out.old) }
+    ensures answer { result ≡ numbered (Some (hash_of H.ChainHash H.TreeHash.own)) (code_numbered code) (Err Parameters) (λ h c. keyed h c source.now turns out.old) }
+    ensures output { out.new ≡ numbered (Some (hash_of H.ChainHash H.TreeHash.own)) (code_numbered code) out.old (λ h c. keyed_output h c source.now turns out.old) }
 {
     match code {
         LamportDiffie::NUMBER => key_with::<H, LamportDiffie>(source, turns, out),
@@ -136,8 +136,8 @@ fn sign_by_code<H: TreeHash>(
     stamp: &[u8; 16],
     out: &mut [u8],
 ) -> Result<(usize, u16), Refusal>
-    ensures answer { result ≡ numbered (Some (hash_of H.ChainHash H.TreeHash)) (code_numbered code) (Err Parameters) (λ h c. signed h c source.now leaf out.old) }
-    ensures output { out.new ≡ numbered (Some (hash_of H.ChainHash H.TreeHash)) (code_numbered code) out.old (λ h c. signed_output h c source.now leaf stamp.now out.old) }
+    ensures answer { result ≡ numbered (Some (hash_of H.ChainHash H.TreeHash.own)) (code_numbered code) (Err Parameters) (λ h c. signed h c source.now leaf out.old) }
+    ensures output { out.new ≡ numbered (Some (hash_of H.ChainHash H.TreeHash.own)) (code_numbered code) out.old (λ h c. signed_output h c source.now leaf stamp.now out.old) }
 {
     match code {
         LamportDiffie::NUMBER => sign_with::<H, LamportDiffie>(source, leaf, stamp, out),
@@ -178,8 +178,8 @@ fn trace_by_code<H: TreeHash>(
     record: &[u8],
     report: &mut [u8; 64],
 ) -> Result<(u8, u16, u16), Refusal>
-    ensures answer { result ≡ numbered (Some (hash_of H.ChainHash H.TreeHash)) (code_numbered code) (Err Parameters) (λ h c. traced h c source.now leaf spent.now stamp.now «record».now) }
-    ensures output { report.new ≡ numbered (Some (hash_of H.ChainHash H.TreeHash)) (code_numbered code) report.old (λ h c. traced_report h c source.now leaf spent.now stamp.now «record».now report.old) }
+    ensures answer { result ≡ numbered (Some (hash_of H.ChainHash H.TreeHash.own)) (code_numbered code) (Err Parameters) (λ h c. traced h c source.now leaf spent.now stamp.now «record».now) }
+    ensures output { report.new ≡ numbered (Some (hash_of H.ChainHash H.TreeHash.own)) (code_numbered code) report.old (λ h c. traced_report h c source.now leaf spent.now stamp.now «record».now report.old) }
 {
     match code {
         LamportDiffie::NUMBER => trace_with::<H, LamportDiffie>(

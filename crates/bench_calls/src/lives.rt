@@ -17,7 +17,7 @@ pub fn verify_with<H: TreeHash, C: Code>(
     stamp: &[u8; 16],
     record: &[u8],
 ) -> Result<usize, Refusal>
-    ensures { result ≡ verified (hash_of H.ChainHash H.TreeHash) (code_of C.Code) key.now stamp.now «record».now }
+    ensures { result ≡ verified (hash_of H.ChainHash H.TreeHash.own) (code_of C.Code) key.now stamp.now «record».now }
 {
     let opened = open::<H, C>(key)?;
     let leaf = verify::<H, C>(&opened, stamp, record)?;
@@ -34,7 +34,7 @@ fn begin<H: TreeHash, C: Code>(source: &Source) -> Result<Maker<H, C>, Refusal>
 
 // Calls grow as often as `leaves` says.
 fn grow_on<H: TreeHash, C: Code>(maker: &mut Maker<H, C>, leaves: u16)
-    ensures { making_of maker.new ≡ grows (hash_of H.ChainHash H.TreeHash) (code_of C.Code) leaves (making_of maker.old) }
+    ensures { making_of maker.new ≡ grows (hash_of H.ChainHash H.TreeHash.own) (code_of C.Code) leaves (making_of maker.old) }
 {
     let mut work = [0; 4096];
     for _ in 0..leaves {
@@ -49,8 +49,8 @@ pub fn grow_with<H: TreeHash, C: Code>(
     level: u8,
     node: &mut [u8; 16],
 ) -> Result<(usize, u16), Refusal>
-    ensures answer { result ≡ grown (hash_of H.ChainHash H.TreeHash) (code_of C.Code) source.now leaves level }
-    ensures output { node.new ≡ grown_node (hash_of H.ChainHash H.TreeHash) (code_of C.Code) source.now leaves level node.old }
+    ensures answer { result ≡ grown (hash_of H.ChainHash H.TreeHash.own) (code_of C.Code) source.now leaves level }
+    ensures output { node.new ≡ grown_node (hash_of H.ChainHash H.TreeHash.own) (code_of C.Code) source.now leaves level node.old }
 {
     let mut maker = begin::<H, C>(source)?;
     grow_on::<H, C>(&mut maker, leaves);
@@ -69,7 +69,7 @@ fn finish<H: TreeHash, C: Code>(
     source: &Source,
     work: &mut [u8; 4096],
 ) -> Result<Signer<H, C>, Refusal>
-    ensures { seen signing_of result ≡ finished (hash_of H.ChainHash H.TreeHash) (code_of C.Code) source.now }
+    ensures { seen signing_of result ≡ finished (hash_of H.ChainHash H.TreeHash.own) (code_of C.Code) source.now }
 {
     let maker = begin::<H, C>(source)?;
     Ok(maker.finish(work))
@@ -81,8 +81,8 @@ pub fn key_with<H: TreeHash, C: Code>(
     turns: u32,
     out: &mut [u8],
 ) -> Result<usize, Refusal>
-    ensures answer { result ≡ keyed (hash_of H.ChainHash H.TreeHash) (code_of C.Code) source.now turns out.old }
-    ensures output { out.new ≡ keyed_output (hash_of H.ChainHash H.TreeHash) (code_of C.Code) source.now turns out.old }
+    ensures answer { result ≡ keyed (hash_of H.ChainHash H.TreeHash.own) (code_of C.Code) source.now turns out.old }
+    ensures output { out.new ≡ keyed_output (hash_of H.ChainHash H.TreeHash.own) (code_of C.Code) source.now turns out.old }
 {
     let mut work = [0; 4096];
     let signer = finish::<H, C>(source, &mut work)?;
@@ -98,7 +98,7 @@ fn serve<H: TreeHash, C: Code>(
     leaf: u16,
     work: &mut [u8; 4096],
 ) -> Result<Signer<H, C>, Refusal>
-    ensures { seen signing_of result ≡ serving (hash_of H.ChainHash H.TreeHash) (code_of C.Code) source.now leaf }
+    ensures { seen signing_of result ≡ serving (hash_of H.ChainHash H.TreeHash.own) (code_of C.Code) source.now leaf }
 {
     let mut signer = finish::<H, C>(source, work)?;
     let _ = signer.skip(leaf);
@@ -112,8 +112,8 @@ pub fn sign_with<H: TreeHash, C: Code>(
     stamp: &[u8; 16],
     out: &mut [u8],
 ) -> Result<(usize, u16), Refusal>
-    ensures answer { result ≡ signed (hash_of H.ChainHash H.TreeHash) (code_of C.Code) source.now leaf out.old }
-    ensures output { out.new ≡ signed_output (hash_of H.ChainHash H.TreeHash) (code_of C.Code) source.now leaf stamp.now out.old }
+    ensures answer { result ≡ signed (hash_of H.ChainHash H.TreeHash.own) (code_of C.Code) source.now leaf out.old }
+    ensures output { out.new ≡ signed_output (hash_of H.ChainHash H.TreeHash.own) (code_of C.Code) source.now leaf stamp.now out.old }
 {
     let mut work = [0; 4096];
     let mut signer = serve::<H, C>(source, leaf, &mut work)?;
@@ -129,8 +129,8 @@ pub fn trace_with<H: TreeHash, C: Code>(
     record: &[u8],
     report: &mut [u8; 64],
 ) -> Result<(u8, u16, u16), Refusal>
-    ensures answer { result ≡ traced (hash_of H.ChainHash H.TreeHash) (code_of C.Code) source.now leaf spent.now stamp.now «record».now }
-    ensures output { report.new ≡ traced_report (hash_of H.ChainHash H.TreeHash) (code_of C.Code) source.now leaf spent.now stamp.now «record».now report.old }
+    ensures answer { result ≡ traced (hash_of H.ChainHash H.TreeHash.own) (code_of C.Code) source.now leaf spent.now stamp.now «record».now }
+    ensures output { report.new ≡ traced_report (hash_of H.ChainHash H.TreeHash.own) (code_of C.Code) source.now leaf spent.now stamp.now «record».now report.old }
 {
     let mut work = [0; 4096];
     let mut signer = serve::<H, C>(source, leaf, &mut work)?;

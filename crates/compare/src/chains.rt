@@ -124,10 +124,10 @@ pub(crate) struct Chain {
 fn compare_chain<H: TreeHash, C: Code>(subject: &Subject<'_>, chain: u16) -> Chain
     requires there { chain < C.Code.count }
     requires shown { 16 * C.Code.count ≤ length subject.now.row.now }
-    ensures ours { result.ours ≡ our_chain (hash_of H.ChainHash H.TreeHash) (code_of C.Code) (traced_of subject.now) chain C.Code.top }
-    ensures theirs { result.theirs ≡ their_chain (hash_of H.ChainHash H.TreeHash) (code_of C.Code) (traced_of subject.now) chain C.Code.top }
-    ensures broken { result.broken ≡ height_search (hash_of H.ChainHash H.TreeHash) (code_of C.Code) (traced_of subject.now) chain }
-    ensures hidden { result.hidden ≡ hidden_find_at (hash_of H.ChainHash H.TreeHash) (code_of C.Code) (traced_of subject.now) chain }
+    ensures ours { result.ours ≡ our_chain (hash_of H.ChainHash H.TreeHash.own) (code_of C.Code) (traced_of subject.now) chain C.Code.top }
+    ensures theirs { result.theirs ≡ their_chain (hash_of H.ChainHash H.TreeHash.own) (code_of C.Code) (traced_of subject.now) chain C.Code.top }
+    ensures broken { result.broken ≡ height_search (hash_of H.ChainHash H.TreeHash.own) (code_of C.Code) (traced_of subject.now) chain }
+    ensures hidden { result.hidden ≡ hidden_find_at (hash_of H.ChainHash H.TreeHash.own) (code_of C.Code) (traced_of subject.now) chain }
 {
     let place = chain as usize;
     let digit = digit_of::<C>(subject.stamp, place);
@@ -164,10 +164,10 @@ pub(crate) fn compare_chains<H: TreeHash, C: Code>(
     theirs: &mut [u8; 4096],
 ) -> Chains
     requires { 16 * C.Code.count ≤ length subject.now.row.now }
-    ensures ours { (k : ℕ) → k < 256 → string_at ours.new k ≡ leaf_string (hash_of H.ChainHash H.TreeHash) (code_of C.Code) (traced_of subject.now).origin subject.now.leaf k }
-    ensures theirs { (k : ℕ) → k < 256 → string_at theirs.new k ≡ their_one_time (hash_of H.ChainHash H.TreeHash) (code_of C.Code) (traced_of subject.now) k }
-    ensures broken { result.broken ≡ chain_search (hash_of H.ChainHash H.TreeHash) (code_of C.Code) (traced_of subject.now) }
-    ensures hidden { result.hidden ≡ hidden_search (hash_of H.ChainHash H.TreeHash) (code_of C.Code) (traced_of subject.now) }
+    ensures ours { (k : ℕ) → k < 256 → string_at ours.new k ≡ leaf_string (hash_of H.ChainHash H.TreeHash.own) (code_of C.Code) (traced_of subject.now).origin subject.now.leaf k }
+    ensures theirs { (k : ℕ) → k < 256 → string_at theirs.new k ≡ their_one_time (hash_of H.ChainHash H.TreeHash.own) (code_of C.Code) (traced_of subject.now) k }
+    ensures broken { result.broken ≡ chain_search (hash_of H.ChainHash H.TreeHash.own) (code_of C.Code) (traced_of subject.now) }
+    ensures hidden { result.hidden ≡ hidden_search (hash_of H.ChainHash H.TreeHash.own) (code_of C.Code) (traced_of subject.now) }
 {
     *ours = [0; 4096];
     *theirs = [0; 4096];

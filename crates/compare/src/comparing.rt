@@ -37,9 +37,9 @@ pub fn compare<H: TreeHash, C: Code>(subject: &Subject<'_>, work: &mut [u8; 4096
     requires tall { subject.now.origin.now.height ≤ 8 }
     requires there { subject.now.leaf < 2 ^ subject.now.origin.now.height }
     requires row { 16 * (C.Code.count + subject.now.origin.now.height) ≤ length subject.now.row.now }
-    ensures root { result.root ≡ rebuilt (hash_of H.ChainHash H.TreeHash) (code_of C.Code) subject.now.origin.now.hash_key subject.now.origin.now.masks subject.now.origin.now.height subject.now.leaf subject.now.stamp.now subject.now.row.now }
-    ensures verdict { result.verdict ≡ found (hash_of H.ChainHash H.TreeHash) (code_of C.Code) (traced_of subject.now) }
-    ensures first { Found (hash_of H.ChainHash H.TreeHash) (code_of C.Code) (traced_of subject.now) result.verdict }
+    ensures root { result.root ≡ rebuilt (hash_of H.ChainHash H.TreeHash.own) (code_of C.Code) subject.now.origin.now.hash_key subject.now.origin.now.masks subject.now.origin.now.height subject.now.leaf subject.now.stamp.now subject.now.row.now }
+    ensures verdict { result.verdict ≡ found (hash_of H.ChainHash H.TreeHash.own) (code_of C.Code) (traced_of subject.now) }
+    ensures first { Found (hash_of H.ChainHash H.TreeHash.own) (code_of C.Code) (traced_of subject.now) result.verdict }
 {
     let mut theirs = [0; 4096];
     let chains = compare_chains::<H, C>(subject, work, &mut theirs);

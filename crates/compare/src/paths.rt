@@ -45,11 +45,11 @@ fn climb_one<H: TreeHash, C: Code>(
     requires row { 16 * (C.Code.count + subject.now.origin.now.height) ≤ length subject.now.row.now }
     requires under { level < subject.now.origin.now.height }
     requires place { position ≡ subject.now.leaf / 2 ^ (subject.now.origin.now.height - (level + 1)) }
-    requires ours { ours.now ≡ our_node (hash_of H.ChainHash H.TreeHash) (code_of C.Code) (traced_of subject.now) (level + 1) position }
-    requires theirs { theirs.now ≡ their_node (hash_of H.ChainHash H.TreeHash) (code_of C.Code) (traced_of subject.now) (level + 1) position }
-    ensures ours { result.ours ≡ our_node (hash_of H.ChainHash H.TreeHash) (code_of C.Code) (traced_of subject.now) level (position / 2) }
-    ensures theirs { result.theirs ≡ their_node (hash_of H.ChainHash H.TreeHash) (code_of C.Code) (traced_of subject.now) level (position / 2) }
-    ensures find { result.find ≡ node_find_at (hash_of H.ChainHash H.TreeHash) (code_of C.Code) (traced_of subject.now) level (position / 2) }
+    requires ours { ours.now ≡ our_node (hash_of H.ChainHash H.TreeHash.own) (code_of C.Code) (traced_of subject.now) (level + 1) position }
+    requires theirs { theirs.now ≡ their_node (hash_of H.ChainHash H.TreeHash.own) (code_of C.Code) (traced_of subject.now) (level + 1) position }
+    ensures ours { result.ours ≡ our_node (hash_of H.ChainHash H.TreeHash.own) (code_of C.Code) (traced_of subject.now) level (position / 2) }
+    ensures theirs { result.theirs ≡ their_node (hash_of H.ChainHash H.TreeHash.own) (code_of C.Code) (traced_of subject.now) level (position / 2) }
+    ensures find { result.find ≡ node_find_at (hash_of H.ChainHash H.TreeHash.own) (code_of C.Code) (traced_of subject.now) level (position / 2) }
 {
     let our_sibling = grow_node::<H, C>(subject.origin, level + 1, sibling(position), work);
     let above = subject.origin.height as usize - level - 1;
@@ -76,11 +76,11 @@ pub(crate) fn climb_to_root<H: TreeHash, C: Code>(
     requires tall { subject.now.origin.now.height ≤ 8 }
     requires there { subject.now.leaf < 2 ^ subject.now.origin.now.height }
     requires row { 16 * (C.Code.count + subject.now.origin.now.height) ≤ length subject.now.row.now }
-    requires ours { leaf_node.now.ours ≡ our_node (hash_of H.ChainHash H.TreeHash) (code_of C.Code) (traced_of subject.now) subject.now.origin.now.height subject.now.leaf }
-    requires theirs { leaf_node.now.theirs ≡ their_node (hash_of H.ChainHash H.TreeHash) (code_of C.Code) (traced_of subject.now) subject.now.origin.now.height subject.now.leaf }
-    ensures ours { result.ours ≡ our_node (hash_of H.ChainHash H.TreeHash) (code_of C.Code) (traced_of subject.now) 0 0 }
-    ensures theirs { result.theirs ≡ their_node (hash_of H.ChainHash H.TreeHash) (code_of C.Code) (traced_of subject.now) 0 0 }
-    ensures find { result.find ≡ first_from (level_search (hash_of H.ChainHash H.TreeHash) (code_of C.Code) (traced_of subject.now)) 0 subject.now.origin.now.height }
+    requires ours { leaf_node.now.ours ≡ our_node (hash_of H.ChainHash H.TreeHash.own) (code_of C.Code) (traced_of subject.now) subject.now.origin.now.height subject.now.leaf }
+    requires theirs { leaf_node.now.theirs ≡ their_node (hash_of H.ChainHash H.TreeHash.own) (code_of C.Code) (traced_of subject.now) subject.now.origin.now.height subject.now.leaf }
+    ensures ours { result.ours ≡ our_node (hash_of H.ChainHash H.TreeHash.own) (code_of C.Code) (traced_of subject.now) 0 0 }
+    ensures theirs { result.theirs ≡ their_node (hash_of H.ChainHash H.TreeHash.own) (code_of C.Code) (traced_of subject.now) 0 0 }
+    ensures find { result.find ≡ first_from (level_search (hash_of H.ChainHash H.TreeHash.own) (code_of C.Code) (traced_of subject.now)) 0 subject.now.origin.now.height }
 {
     let height = subject.origin.height as usize;
     let mut ours = leaf_node.ours;

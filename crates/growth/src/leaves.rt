@@ -13,7 +13,7 @@ use tree::nodes::{fold, parent};
 
 // The string of a leaf's chain at a height.
 pub fn chain_string<H: TreeHash>(origin: &Origin, leaf: u16, chain: usize, height: u8) -> [u8; 16]
-    ensures { result ≡ chain_string (hash_of H.ChainHash H.TreeHash) origin.now leaf chain height }
+    ensures { result ≡ chain_string (hash_of H.ChainHash H.TreeHash.own) origin.now leaf chain height }
 {
     let secret = H::pair(&origin.seed, &number(leaf as u128), &number(chain as u128));
     climb_chain::<H>(&origin.hash_key, &secret, height)
@@ -21,7 +21,7 @@ pub fn chain_string<H: TreeHash>(origin: &Origin, leaf: u16, chain: usize, heigh
 
 // Fills the row with the one-time strings of a leaf.
 fn fill_leaf<H: TreeHash, C: Code>(origin: &Origin, leaf: u16, row: &mut [u8; 4096])
-    ensures { (k : ℕ) → k < 256 → string_at row.new k ≡ leaf_string (hash_of H.ChainHash H.TreeHash) (code_of C.Code) origin.now leaf k }
+    ensures { (k : ℕ) → k < 256 → string_at row.new k ≡ leaf_string (hash_of H.ChainHash H.TreeHash.own) (code_of C.Code) origin.now leaf k }
 {
     *row = [0; 4096];
     for k in 0..C::digit_count() {
@@ -37,7 +37,7 @@ pub fn leaf_node<H: TreeHash, C: Code>(
     work: &mut [u8; 4096],
 ) -> [u8; 16]
     requires { origin.now.height ≤ 8 }
-    ensures { result ≡ node_at (hash_of H.ChainHash H.TreeHash) (code_of C.Code) origin.now origin.now.height leaf }
+    ensures { result ≡ node_at (hash_of H.ChainHash H.TreeHash.own) (code_of C.Code) origin.now origin.now.height leaf }
 {
     fill_leaf::<H, C>(origin, leaf, work);
     fold::<H>(
@@ -59,7 +59,7 @@ pub fn grow_node<H: TreeHash, C: Code>(
     requires tall { origin.now.height ≤ 8 }
     requires within { level ≤ origin.now.height }
     requires there { position < 2 ^ level }
-    ensures { result ≡ node_at (hash_of H.ChainHash H.TreeHash) (code_of C.Code) origin.now level position }
+    ensures { result ≡ node_at (hash_of H.ChainHash H.TreeHash.own) (code_of C.Code) origin.now level position }
 {
     if level == origin.height as usize {
         return leaf_node::<H, C>(origin, position, work);

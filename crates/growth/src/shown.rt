@@ -31,7 +31,7 @@ pub fn shown_string<H: TreeHash, C: Code>(
     requires tall { origin.now.height ≤ 8 }
     requires there { leaf < 2 ^ origin.now.height }
     requires within { k < C.Code.count + origin.now.height }
-    ensures { result ≡ shown_string (hash_of H.ChainHash H.TreeHash) (code_of C.Code) origin.now leaf stamp.now k }
+    ensures { result ≡ shown_string (hash_of H.ChainHash H.TreeHash.own) (code_of C.Code) origin.now leaf stamp.now k }
 {
     let count = C::digit_count();
     if k < count {

@@ -20,8 +20,8 @@ pub fn add_leaf<H: TreeHash, C: Code>(
 )
     requires tall { origin.now.height ≤ 8 }
     requires room { grown < 2 ^ origin.now.height }
-    ensures after { nodes.new ≡ with_leaf (hash_of H.ChainHash H.TreeHash) (code_of C.Code) origin.now grown nodes.old }
-    ensures held { Holds (hash_of H.ChainHash H.TreeHash) (code_of C.Code) origin.now grown nodes.old → Holds (hash_of H.ChainHash H.TreeHash) (code_of C.Code) origin.now (grown + 1) nodes.new }
+    ensures after { nodes.new ≡ with_leaf (hash_of H.ChainHash H.TreeHash.own) (code_of C.Code) origin.now grown nodes.old }
+    ensures held { Holds (hash_of H.ChainHash H.TreeHash.own) (code_of C.Code) origin.now grown nodes.old → Holds (hash_of H.ChainHash H.TreeHash.own) (code_of C.Code) origin.now (grown + 1) nodes.new }
 {
     let mut node = leaf_node::<H, C>(origin, grown, work);
     let mut level = origin.height as usize;

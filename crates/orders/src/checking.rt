@@ -25,7 +25,7 @@ fn check_order<'a, H: TreeHash, C: Code>(
     bytes: &'a [u8],
 ) -> (Result<u16, Refusal>, &'a [u8])
     requires { 0 < length bytes.now }
-    ensures first { (answers : List (Result ℕ Refusal)) → Outcomes (verify_rule (hash_of H.ChainHash H.TreeHash) (code_of C.Code) (key_of key.now)) result.1.now answers → Outcomes (verify_rule (hash_of H.ChainHash H.TreeHash) (code_of C.Code) (key_of key.now)) bytes.now (result.0 ∷ answers) }
+    ensures first { (answers : List (Result ℕ Refusal)) → Outcomes (verify_rule (hash_of H.ChainHash H.TreeHash.own) (code_of C.Code) (key_of key.now)) result.1.now answers → Outcomes (verify_rule (hash_of H.ChainHash H.TreeHash.own) (code_of C.Code) (key_of key.now)) bytes.now (result.0 ∷ answers) }
     ensures fewer { length result.1.now < length bytes.now }
 {
     if bytes.len() < 16 {
@@ -42,9 +42,9 @@ fn check_orders<H: TreeHash, C: Code>(
     key: &OpenedKey<'_>,
     bytes: &[u8],
 ) -> Result<Vec<Result<u16, Refusal>>, AllocError>
-    ensures answers { IfOk result (λ v. Outcomes (verify_rule (hash_of H.ChainHash H.TreeHash) (code_of C.Code) (key_of key.now)) bytes.now v.items) }
+    ensures answers { IfOk result (λ v. Outcomes (verify_rule (hash_of H.ChainHash H.TreeHash.own) (code_of C.Code) (key_of key.now)) bytes.now v.items) }
     ensures lacking { OnErr result (0 < length bytes.now) }
-    ensures only { IfOk result (λ v. (others : List (Result ℕ Refusal)) → Outcomes (verify_rule (hash_of H.ChainHash H.TreeHash) (code_of C.Code) (key_of key.now)) bytes.now others → others ≡ v.items) }
+    ensures only { IfOk result (λ v. (others : List (Result ℕ Refusal)) → Outcomes (verify_rule (hash_of H.ChainHash H.TreeHash.own) (code_of C.Code) (key_of key.now)) bytes.now others → others ≡ v.items) }
 {
     let mut outcomes = Vec::new(heap);
     let mut rest = bytes;
@@ -72,7 +72,7 @@ fn check_with<H: TreeHash, C: Code>(
     key: &[u8],
     orders: &[u8],
 ) -> Result<Report, AllocError>
-    ensures report { IfOk result (λ report. Checked (hash_of H.ChainHash H.TreeHash) (code_of C.Code) (open_rule H.ChainHash.numbered C.Code.number C.Code.levels key.now) orders.now report) }
+    ensures report { IfOk result (λ report. Checked (hash_of H.ChainHash H.TreeHash.own) (code_of C.Code) (open_rule H.ChainHash.numbered C.Code.number C.Code.levels key.now) orders.now report) }
     ensures lacking { OnErr result (0 < length orders.now) }
 {
     match open::<H, C>(key) {
@@ -111,7 +111,7 @@ fn byte_at(bytes: &[u8], i: usize) -> u8
 
 // The report by hash `H` and the code that the key record names.
 fn check_by_code<H: TreeHash>(heap: Global, key: &[u8], orders: &[u8]) -> Result<Report, AllocError>
-    ensures report { IfOk result (λ report. CheckedBy (Some (hash_of H.ChainHash H.TreeHash)) (code_numbered (code_number_of key.now)) key.now orders.now report) }
+    ensures report { IfOk result (λ report. CheckedBy (Some (hash_of H.ChainHash H.TreeHash.own)) (code_numbered (code_number_of key.now)) key.now orders.now report) }
     ensures lacking { OnErr result (0 < length orders.now) }
 {
     match byte_at(key, 7) {

@@ -41,8 +41,8 @@ impl<H: TreeHash, C: Code> Session<H, C> {
 
     // Answers a call. One that the key does not have now changes nothing.
     pub fn answer(self, heap: Global, call: &Call) -> Result<(Session<H, C>, Answer), AllocError>
-        ensures answer { IfOk result (λ x. told x.1 ≡ reply (hash_of H.ChainHash H.TreeHash) (code_of C.Code) (state_of self) (said call.now)) }
-        ensures state { IfOk result (λ x. state_of x.0 ≡ leaves (hash_of H.ChainHash H.TreeHash) (code_of C.Code) (state_of self) (said call.now)) }
+        ensures answer { IfOk result (λ x. told x.1 ≡ reply (hash_of H.ChainHash H.TreeHash.own) (code_of C.Code) (state_of self) (said call.now)) }
+        ensures state { IfOk result (λ x. state_of x.0 ≡ leaves (hash_of H.ChainHash H.TreeHash.own) (code_of C.Code) (state_of self) (said call.now)) }
     {
         match self {
             Session::Growing(maker) => while_growing(heap, maker, call),

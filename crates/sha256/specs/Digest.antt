@@ -1,6 +1,6 @@
 -- SHA-256 of a message of bytes.
 -- Assumes nothing.
-use Rattle.std.specs.Prelude.{ℕ, zero, suc, ◌+◌, ◌-◌, ◌*◌, ◌/◌, ◌%◌, ◌^◌, List, [], ◌∷◌, ◌++◌, reverse, length, take, drop, replicate}
+use Rattle.std.specs.Prelude.{ℕ, zero, suc, ◌-◌, ◌*◌, ◌/◌, ◌%◌, ◌^◌, List, [], ◌∷◌, ◌++◌, reverse, length, take, drop, replicate}
 use Rattle.std.specs.List.{flat_map}
 use Rattle.strings.specs.Strings.{little_endian}
 use Rattle.sha256.specs.declared.state.State.{State}

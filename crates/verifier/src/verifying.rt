@@ -17,7 +17,7 @@ pub fn verify<H: TreeHash, C: Code>(
     stamp: &[u8; 16],
     bytes: &[u8],
 ) -> Result<u16, Refusal>
-    ensures { result ≡ verify_rule (hash_of H.ChainHash H.TreeHash) (code_of C.Code) (key_of key.now) stamp.now bytes.now }
+    ensures { result ≡ verify_rule (hash_of H.ChainHash H.TreeHash.own) (code_of C.Code) (key_of key.now) stamp.now bytes.now }
 {
     let release = read_release::<H, C>(key, bytes)?;
     let hash_key = string_at(key.hash_key(), 0);

@@ -38,7 +38,7 @@ fn held_nodes<H: TreeHash, C: Code>(
 
 fn grow<H: TreeHash, C: Code>(maker: &mut Maker<H, C>) -> Answer
     ensures answer { told result ≡ answered grown (grow_answer (making_of maker.old)) }
-    ensures state { making_of maker.new ≡ grow_leaves (hash_of H.ChainHash H.TreeHash) (code_of C.Code) (making_of maker.old) }
+    ensures state { making_of maker.new ≡ grow_leaves (hash_of H.ChainHash H.TreeHash.own) (code_of C.Code) (making_of maker.old) }
 {
     let mut work = [0; 4096];
     match maker.grow(&mut work) {
@@ -53,8 +53,8 @@ pub(crate) fn while_growing<H: TreeHash, C: Code>(
     mut maker: Maker<H, C>,
     call: &Call,
 ) -> Result<(Session<H, C>, Answer), AllocError>
-    ensures answer { IfOk result (λ x. told x.1 ≡ reply (hash_of H.ChainHash H.TreeHash) (code_of C.Code) (growing (making_of maker)) (said call.now)) }
-    ensures state { IfOk result (λ x. state_of x.0 ≡ leaves (hash_of H.ChainHash H.TreeHash) (code_of C.Code) (growing (making_of maker)) (said call.now)) }
+    ensures answer { IfOk result (λ x. told x.1 ≡ reply (hash_of H.ChainHash H.TreeHash.own) (code_of C.Code) (growing (making_of maker)) (said call.now)) }
+    ensures state { IfOk result (λ x. state_of x.0 ≡ leaves (hash_of H.ChainHash H.TreeHash.own) (code_of C.Code) (growing (making_of maker)) (said call.now)) }
 {
     match call {
         Call::Grow => {

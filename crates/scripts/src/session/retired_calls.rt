@@ -19,7 +19,7 @@ fn key<H: TreeHash, C: Code>(
     signer: &Retired<H, C>,
     room: u32,
 ) -> Result<Answer, AllocError>
-    ensures { IfOk result (λ a. told a ≡ key_reply (hash_of H.ChainHash H.TreeHash) (code_of C.Code) (signing_of signer.now.signer) room) }
+    ensures { IfOk result (λ a. told a ≡ key_reply (hash_of H.ChainHash H.TreeHash.own) (code_of C.Code) (signing_of signer.now.signer) room) }
 {
     let mut out = output_of(heap, room)?;
     let size = signer.key(out.as_mut_slice());
@@ -27,7 +27,7 @@ fn key<H: TreeHash, C: Code>(
 }
 
 fn trace<H: TreeHash, C: Code>(signer: &Retired<H, C>, stamp: &[u8; 16], bytes: &[u8]) -> Answer
-    ensures { told result ≡ trace_reply (hash_of H.ChainHash H.TreeHash) (code_of C.Code) (signing_of signer.now.signer) stamp.now bytes.now }
+    ensures { told result ≡ trace_reply (hash_of H.ChainHash H.TreeHash.own) (code_of C.Code) (signing_of signer.now.signer) stamp.now bytes.now }
 {
     let mut work = [0; 4096];
     let mut report = [0; 64];
@@ -41,8 +41,8 @@ pub(crate) fn out_of_service<H: TreeHash, C: Code>(
     signer: Retired<H, C>,
     call: &Call,
 ) -> Result<(Session<H, C>, Answer), AllocError>
-    ensures answer { IfOk result (λ x. told x.1 ≡ reply (hash_of H.ChainHash H.TreeHash) (code_of C.Code) (retired (signing_of signer.signer)) (said call.now)) }
-    ensures state { IfOk result (λ x. state_of x.0 ≡ leaves (hash_of H.ChainHash H.TreeHash) (code_of C.Code) (retired (signing_of signer.signer)) (said call.now)) }
+    ensures answer { IfOk result (λ x. told x.1 ≡ reply (hash_of H.ChainHash H.TreeHash.own) (code_of C.Code) (retired (signing_of signer.signer)) (said call.now)) }
+    ensures state { IfOk result (λ x. state_of x.0 ≡ leaves (hash_of H.ChainHash H.TreeHash.own) (code_of C.Code) (retired (signing_of signer.signer)) (said call.now)) }
 {
     match call {
         Call::Key { room } => {

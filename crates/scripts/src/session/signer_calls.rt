@@ -20,7 +20,7 @@ fn key<H: TreeHash, C: Code>(
     signer: &Signer<H, C>,
     room: u32,
 ) -> Result<Answer, AllocError>
-    ensures { IfOk result (λ a. told a ≡ key_reply (hash_of H.ChainHash H.TreeHash) (code_of C.Code) (signing_of signer.now) room) }
+    ensures { IfOk result (λ a. told a ≡ key_reply (hash_of H.ChainHash H.TreeHash.own) (code_of C.Code) (signing_of signer.now) room) }
 {
     let mut out = output_of(heap, room)?;
     let size = signer.key(out.as_mut_slice());
@@ -33,7 +33,7 @@ fn sign<H: TreeHash, C: Code>(
     stamp: &[u8; 16],
     room: u32,
 ) -> Result<Answer, AllocError>
-    ensures answer { IfOk result (λ a. told a ≡ sign_reply (hash_of H.ChainHash H.TreeHash) (code_of C.Code) (signing_of signer.old) stamp.now room) }
+    ensures answer { IfOk result (λ a. told a ≡ sign_reply (hash_of H.ChainHash H.TreeHash.own) (code_of C.Code) (signing_of signer.old) stamp.now room) }
     ensures state { OnOk result (signing_of signer.new ≡ sign_state (code_of C.Code) (signing_of signer.old) stamp.now (output room)) }
 {
     let mut work = [0; 4096];
@@ -58,7 +58,7 @@ fn skip<H: TreeHash, C: Code>(signer: &mut Signer<H, C>, leaf: u16) -> Answer
 }
 
 fn trace<H: TreeHash, C: Code>(signer: &Signer<H, C>, stamp: &[u8; 16], bytes: &[u8]) -> Answer
-    ensures { told result ≡ trace_reply (hash_of H.ChainHash H.TreeHash) (code_of C.Code) (signing_of signer.now) stamp.now bytes.now }
+    ensures { told result ≡ trace_reply (hash_of H.ChainHash H.TreeHash.own) (code_of C.Code) (signing_of signer.now) stamp.now bytes.now }
 {
     let mut work = [0; 4096];
     let mut report = [0; 64];
@@ -72,8 +72,8 @@ pub(crate) fn in_service<H: TreeHash, C: Code>(
     mut signer: Signer<H, C>,
     call: &Call,
 ) -> Result<(Session<H, C>, Answer), AllocError>
-    ensures answer { IfOk result (λ x. told x.1 ≡ reply (hash_of H.ChainHash H.TreeHash) (code_of C.Code) (serving (signing_of signer)) (said call.now)) }
-    ensures state { IfOk result (λ x. state_of x.0 ≡ leaves (hash_of H.ChainHash H.TreeHash) (code_of C.Code) (serving (signing_of signer)) (said call.now)) }
+    ensures answer { IfOk result (λ x. told x.1 ≡ reply (hash_of H.ChainHash H.TreeHash.own) (code_of C.Code) (serving (signing_of signer)) (said call.now)) }
+    ensures state { IfOk result (λ x. state_of x.0 ≡ leaves (hash_of H.ChainHash H.TreeHash.own) (code_of C.Code) (serving (signing_of signer)) (said call.now)) }
 {
     match call {
         Call::Key { room } => {

@@ -17,9 +17,9 @@ impl<H: TreeHash, C: Code> Signer<H, C> {
     // Writes the key record at the start of the output, and answers its length. Refuses an output that is shorter; it stays.
     pub fn key(&self, out: &mut [u8]) -> Result<usize, Refusal>
         ensures answer { result ≡ key_answer (code_of C.Code) (signing_of self.now) out.old }
-        ensures output { out.new ≡ key_output (hash_of H.ChainHash H.TreeHash) (code_of C.Code) (signing_of self.now) out.old }
-        ensures opens { open_rule H.ChainHash.numbered C.Code.number C.Code.levels (key_record (hash_of H.ChainHash H.TreeHash) (code_of C.Code) (signing_of self.now)) ≡ Ok (record { bytes = key_record (hash_of H.ChainHash H.TreeHash) (code_of C.Code) (signing_of self.now); height = self.now.origin.height }) }
-        ensures lived { (x : State) → IsSigner x (signing_of self.now) → Continues (hash_of H.ChainHash H.TreeHash) (code_of C.Code) x (key out.old result out.new) x }
+        ensures output { out.new ≡ key_output (hash_of H.ChainHash H.TreeHash.own) (code_of C.Code) (signing_of self.now) out.old }
+        ensures opens { open_rule H.ChainHash.numbered C.Code.number C.Code.levels (key_record (hash_of H.ChainHash H.TreeHash.own) (code_of C.Code) (signing_of self.now)) ≡ Ok (record { bytes = key_record (hash_of H.ChainHash H.TreeHash.own) (code_of C.Code) (signing_of self.now); height = self.now.origin.height }) }
+        ensures lived { (x : State) → IsSigner x (signing_of self.now) → Continues (hash_of H.ChainHash H.TreeHash.own) (code_of C.Code) x (key out.old result out.new) x }
     {
         let size = 42 + 32 * (self.origin.height as usize + C::level_count() as usize);
         if out.len() < size {
@@ -46,10 +46,10 @@ impl<H: TreeHash, C: Code> Signer<H, C> {
     ) -> Result<(usize, u16), Refusal>
         ensures answer { result ≡ sign_answer (code_of C.Code) (signing_of self.old) out.old }
         ensures state { signing_of self.new ≡ sign_state (code_of C.Code) (signing_of self.old) stamp.now out.old }
-        ensures output { out.new ≡ sign_output (hash_of H.ChainHash H.TreeHash) (code_of C.Code) (signing_of self.old) stamp.now out.old }
-        ensures accepted { Rooted (hash_of H.ChainHash H.TreeHash) (code_of C.Code) (signing_of self.old) → self.old.next < 2 ^ self.old.origin.height → Accepted (hash_of H.ChainHash H.TreeHash) (code_of C.Code) (signing_of self.old) stamp.now }
-        ensures accepts { Rooted (hash_of H.ChainHash H.TreeHash) (code_of C.Code) (signing_of self.old) → self.old.next < 2 ^ self.old.origin.height → Accepts (hash_of H.ChainHash H.TreeHash) (code_of C.Code) (signing_of self.old) stamp.now (release_record (hash_of H.ChainHash H.TreeHash) (code_of C.Code) (signing_of self.old) stamp.now) self.old.next }
-        ensures lived { Continues (hash_of H.ChainHash H.TreeHash) (code_of C.Code) (serving (signing_of self.old)) (sign stamp.now out.old result out.new) (serving (signing_of self.new)) }
+        ensures output { out.new ≡ sign_output (hash_of H.ChainHash H.TreeHash.own) (code_of C.Code) (signing_of self.old) stamp.now out.old }
+        ensures accepted { Rooted (hash_of H.ChainHash H.TreeHash.own) (code_of C.Code) (signing_of self.old) → self.old.next < 2 ^ self.old.origin.height → Accepted (hash_of H.ChainHash H.TreeHash.own) (code_of C.Code) (signing_of self.old) stamp.now }
+        ensures accepts { Rooted (hash_of H.ChainHash H.TreeHash.own) (code_of C.Code) (signing_of self.old) → self.old.next < 2 ^ self.old.origin.height → Accepts (hash_of H.ChainHash H.TreeHash.own) (code_of C.Code) (signing_of self.old) stamp.now (release_record (hash_of H.ChainHash H.TreeHash.own) (code_of C.Code) (signing_of self.old) stamp.now) self.old.next }
+        ensures lived { Continues (hash_of H.ChainHash H.TreeHash.own) (code_of C.Code) (serving (signing_of self.old)) (sign stamp.now out.old result out.new) (serving (signing_of self.new)) }
         ensures wiped { work.new ≡ replicate 4096 0 }
     {
         let guard = Scratch { bytes: work };
@@ -72,7 +72,7 @@ impl<H: TreeHash, C: Code> Signer<H, C> {
     pub fn skip(&mut self, leaf: u16) -> Result<u16, Refusal>
         ensures answer { result ≡ skip_answer (signing_of self.old) leaf }
         ensures state { signing_of self.new ≡ skip_state (signing_of self.old) leaf }
-        ensures lived { Continues (hash_of H.ChainHash H.TreeHash) (code_of C.Code) (serving (signing_of self.old)) (skip leaf result) (serving (signing_of self.new)) }
+        ensures lived { Continues (hash_of H.ChainHash H.TreeHash.own) (code_of C.Code) (serving (signing_of self.old)) (skip leaf result) (serving (signing_of self.new)) }
     {
         if leaf < self.next || leaf > 1 << self.origin.height {
             return Err(Refusal::Skip);
@@ -84,7 +84,7 @@ impl<H: TreeHash, C: Code> Signer<H, C> {
     // Takes the key out of service.
     pub fn retire(self) -> Retired<H, C>
         ensures state { signing_of result.signer ≡ signing_of self }
-        ensures lived { Continues (hash_of H.ChainHash H.TreeHash) (code_of C.Code) (serving (signing_of self)) retire (retired (signing_of result.signer)) }
+        ensures lived { Continues (hash_of H.ChainHash H.TreeHash.own) (code_of C.Code) (serving (signing_of self)) retire (retired (signing_of result.signer)) }
     {
         Retired { signer: self }
     }
@@ -94,9 +94,9 @@ impl<H: TreeHash, C: Code> Retired<H, C> {
     // As `key` of the signer that was retired.
     pub fn key(&self, out: &mut [u8]) -> Result<usize, Refusal>
         ensures answer { result ≡ key_answer (code_of C.Code) (signing_of self.now.signer) out.old }
-        ensures output { out.new ≡ key_output (hash_of H.ChainHash H.TreeHash) (code_of C.Code) (signing_of self.now.signer) out.old }
-        ensures opens { open_rule H.ChainHash.numbered C.Code.number C.Code.levels (key_record (hash_of H.ChainHash H.TreeHash) (code_of C.Code) (signing_of self.now.signer)) ≡ Ok (record { bytes = key_record (hash_of H.ChainHash H.TreeHash) (code_of C.Code) (signing_of self.now.signer); height = self.now.signer.origin.height }) }
-        ensures lived { Continues (hash_of H.ChainHash H.TreeHash) (code_of C.Code) (retired (signing_of self.now.signer)) (key out.old result out.new) (retired (signing_of self.now.signer)) }
+        ensures output { out.new ≡ key_output (hash_of H.ChainHash H.TreeHash.own) (code_of C.Code) (signing_of self.now.signer) out.old }
+        ensures opens { open_rule H.ChainHash.numbered C.Code.number C.Code.levels (key_record (hash_of H.ChainHash H.TreeHash.own) (code_of C.Code) (signing_of self.now.signer)) ≡ Ok (record { bytes = key_record (hash_of H.ChainHash H.TreeHash.own) (code_of C.Code) (signing_of self.now.signer); height = self.now.signer.origin.height }) }
+        ensures lived { Continues (hash_of H.ChainHash H.TreeHash.own) (code_of C.Code) (retired (signing_of self.now.signer)) (key out.old result out.new) (retired (signing_of self.now.signer)) }
     {
         self.signer.key(out)
     }

@@ -26,11 +26,11 @@ impl<H: TreeHash, C: Code> Signer<H, C> {
         report: &mut [u8; 64],
         work: &mut [u8; 4096],
     ) -> Result<(u8, u16, u16), Refusal>
-        ensures answer { result ≡ trace_answer (hash_of H.ChainHash H.TreeHash) (code_of C.Code) (signing_of self.now) stamp.now bytes.now }
-        ensures report { report.new ≡ trace_report (hash_of H.ChainHash H.TreeHash) (code_of C.Code) (signing_of self.now) stamp.now bytes.now report.old }
-        ensures finds { Finds (hash_of H.ChainHash H.TreeHash) (code_of C.Code) (signing_of self.now) stamp.now bytes.now result report.new }
-        ensures lived { (x : State) → IsSigner x (signing_of self.now) → Continues (hash_of H.ChainHash H.TreeHash) (code_of C.Code) x (trace stamp.now bytes.now report.old result report.new) x }
-        ensures promise { Promised (hash_of H.ChainHash H.TreeHash) (code_of C.Code) (signing_of self.now) stamp.now bytes.now result report.new }
+        ensures answer { result ≡ trace_answer (hash_of H.ChainHash H.TreeHash.own) (code_of C.Code) (signing_of self.now) stamp.now bytes.now }
+        ensures report { report.new ≡ trace_report (hash_of H.ChainHash H.TreeHash.own) (code_of C.Code) (signing_of self.now) stamp.now bytes.now report.old }
+        ensures finds { Finds (hash_of H.ChainHash H.TreeHash.own) (code_of C.Code) (signing_of self.now) stamp.now bytes.now result report.new }
+        ensures lived { (x : State) → IsSigner x (signing_of self.now) → Continues (hash_of H.ChainHash H.TreeHash.own) (code_of C.Code) x (trace stamp.now bytes.now report.old result report.new) x }
+        ensures promise { Promised (hash_of H.ChainHash H.TreeHash.own) (code_of C.Code) (signing_of self.now) stamp.now bytes.now result report.new }
         ensures wiped { work.new ≡ replicate 4096 0 }
     {
         let guard = Scratch { bytes: work };
@@ -60,11 +60,11 @@ impl<H: TreeHash, C: Code> Retired<H, C> {
         report: &mut [u8; 64],
         work: &mut [u8; 4096],
     ) -> Result<(u8, u16, u16), Refusal>
-        ensures answer { result ≡ trace_answer (hash_of H.ChainHash H.TreeHash) (code_of C.Code) (signing_of self.now.signer) stamp.now bytes.now }
-        ensures report { report.new ≡ trace_report (hash_of H.ChainHash H.TreeHash) (code_of C.Code) (signing_of self.now.signer) stamp.now bytes.now report.old }
-        ensures finds { Finds (hash_of H.ChainHash H.TreeHash) (code_of C.Code) (signing_of self.now.signer) stamp.now bytes.now result report.new }
-        ensures lived { Continues (hash_of H.ChainHash H.TreeHash) (code_of C.Code) (retired (signing_of self.now.signer)) (trace stamp.now bytes.now report.old result report.new) (retired (signing_of self.now.signer)) }
-        ensures promise { Promised (hash_of H.ChainHash H.TreeHash) (code_of C.Code) (signing_of self.now.signer) stamp.now bytes.now result report.new }
+        ensures answer { result ≡ trace_answer (hash_of H.ChainHash H.TreeHash.own) (code_of C.Code) (signing_of self.now.signer) stamp.now bytes.now }
+        ensures report { report.new ≡ trace_report (hash_of H.ChainHash H.TreeHash.own) (code_of C.Code) (signing_of self.now.signer) stamp.now bytes.now report.old }
+        ensures finds { Finds (hash_of H.ChainHash H.TreeHash.own) (code_of C.Code) (signing_of self.now.signer) stamp.now bytes.now result report.new }
+        ensures lived { Continues (hash_of H.ChainHash H.TreeHash.own) (code_of C.Code) (retired (signing_of self.now.signer)) (trace stamp.now bytes.now report.old result report.new) (retired (signing_of self.now.signer)) }
+        ensures promise { Promised (hash_of H.ChainHash H.TreeHash.own) (code_of C.Code) (signing_of self.now.signer) stamp.now bytes.now result report.new }
         ensures wiped { work.new ≡ replicate 4096 0 }
     {
         self.signer.trace(stamp, bytes, report, work)

@@ -1,4 +1,4 @@
-use Rattle.std.proofs.Common.{◌≡◌, ◌+◌, ◌-◌, ◌^◌, ◌<◌, ap, ◌∙◌, arith, pow_pos}
+use Rattle.std.proofs.Common.{◌≡◌, ◌+◌, ◌-◌, ◌^◌, ap, ◌∙◌, arith, pow_pos}
 use Rattle.strings.specs.Strings.{string_at}
 use Rattle.tree.specs.Nodes.{join, node}
 use Rattle.tree.proofs.Laws.{fold-none, fold_more, shift_one, double-pow}

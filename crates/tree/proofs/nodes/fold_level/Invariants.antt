@@ -1,4 +1,4 @@
-use Rattle.std.proofs.Common.{◌≡◌, ℕ, ◌+◌, ◌*◌, ◌<◌, ◌≤◌, length}
+use Rattle.std.proofs.Common.{◌≡◌, ℕ, ◌+◌, ◌*◌, ◌<◌, ◌≤◌}
 use Rattle.strings.specs.Strings.{string_at}
 use Rattle.tree.specs.Nodes.{join}
 use Rattle.tree.proofs.nodes.fold_level.Given as goal

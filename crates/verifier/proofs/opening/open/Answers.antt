@@ -23,10 +23,10 @@ whole g bytes r typed is =
 pub returns-in_err-body : goal.returns-in_err-body
 returns-in_err-body g c =
     let bytes = c.args.bytes.now in
-    let p = err_from_is_err_and c.from-residual.result c.from-residual.ensures.1 in
-    let is : seen key_of c.from-residual.result ≡ open_rule g.H.ChainHash.numbered g.C.Code.number g.C.Code.levels bytes =
-    broken key_of c.from-residual.result p.0 c.in_err-body.field-0.0 (header_rule 1 bytes) _ p.1 p.2 c.in_err-body.ensures in
-    record { answer = is; reads = whole g bytes _ c.type-inv.bytes is }
+    let p = err_from_is_err_and c.from_residual.result c.from_residual.ensures.1 in
+    let is : seen key_of c.from_residual.result ≡ open_rule g.H.ChainHash.numbered g.C.Code.number g.C.Code.levels bytes =
+    broken key_of c.from_residual.result p.0 c.in_err-body.field-0.0 (header_rule 1 bytes) _ p.1 p.2 c.in_err-body.ensures in
+    record { answer = is; reads = whole g bytes _ c.type_inv.bytes is }
 
 -- what is read past the header
 module _ (bytes body : List ℕ) (hash code levels : ℕ) (read : Ok body ≡ header_rule 1 bytes) (hashed : get_or body 0 0 ≡ hash) (coded : get_or body 1 0 ≡ code) where
@@ -81,7 +81,7 @@ returns-then-height-lt1 g c =
       | then-height-lt1-via-else-height-lt1+else-height-gt8+then-body-ne0 w ↦ or_right (ltb (height_of bytes) 1) _ (or_right (ltb 8 (height_of bytes)) _ (differ-to (spare_of bytes) 0 (λ e. w.if-body-ne0.true (s ∙ e))))
     ] in
     let is = too-high bytes body g.H.ChainHash.numbered g.C.Code.number g.C.Code.levels read (c.if-body-hash_number.false ∙ c.hash_number.ensures) (c.if-body-code_number.false ∙ c.code_number.ensures) bad in
-    record { answer = is; reads = whole g bytes _ c.type-inv.bytes is }
+    record { answer = is; reads = whole g bytes _ c.type_inv.bytes is }
 
 pub returns-then-bytes-height : goal.returns-then-bytes-height
 returns-then-bytes-height g c =
@@ -90,7 +90,7 @@ returns-then-bytes-height g c =
     let levels = c.level_count.ensures in
     let is = misfit bytes body g.H.ChainHash.numbered g.C.Code.number g.C.Code.levels c.in_ok-body.ensures (c.if-body-hash_number.false ∙ c.hash_number.ensures) (c.if-body-code_number.false ∙ c.code_number.ensures)
     c.if-height-lt1.false c.if-height-gt8.false c.if-body-ne0.false (λ e. c.if-bytes-height.true (e ∙ omega arith)) in
-    record { answer = is; reads = whole g bytes _ c.type-inv.bytes is }
+    record { answer = is; reads = whole g bytes _ c.type_inv.bytes is }
 
 pub returns : goal.returns
 returns g c =
@@ -99,4 +99,4 @@ returns g c =
     let levels = c.level_count.ensures in
     let is = fits bytes body g.H.ChainHash.numbered g.C.Code.number g.C.Code.levels c.in_ok-body.ensures (c.if-body-hash_number.false ∙ c.hash_number.ensures) (c.if-body-code_number.false ∙ c.code_number.ensures)
     c.if-height-lt1.false c.if-height-gt8.false c.if-body-ne0.false (c.if-bytes-height.false ∙ omega arith) in
-    record { answer = is; reads = whole g bytes _ c.type-inv.bytes is }
+    record { answer = is; reads = whole g bytes _ c.type_inv.bytes is }

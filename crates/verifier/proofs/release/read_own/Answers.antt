@@ -7,8 +7,8 @@ use Rattle.verifier.proofs.release.read_own.Goals as goal
 
 pub returns-in_err-body : goal.returns-in_err-body
 returns-in_err-body g c =
-    let p = err_from_is_err_and c.from-residual.result c.from-residual.ensures.1 in
-    broken shown_by c.from-residual.result p.0 c.in_err-body.field-0.0 (header_rule 2 c.args.bytes.now) _ p.1 p.2 c.in_err-body.ensures
+    let p = err_from_is_err_and c.from_residual.result c.from_residual.ensures.1 in
+    broken shown_by c.from_residual.result p.0 c.in_err-body.field-0.0 (header_rule 2 c.args.bytes.now) _ p.1 p.2 c.in_err-body.ensures
 
 pub parts_of-requires : goal.parts_of-requires
 parts_of-requires g c =

@@ -24,10 +24,10 @@ pub returns-in_err-body : goal.returns-in_err-body
 returns-in_err-body g c =
     let key = key_of c.args.key.now in
     let bytes = c.args.bytes.now in
-    let p = err_from_is_err_and c.from-residual.result c.from-residual.ensures.1 in
-    let is : seen shown_by c.from-residual.result ≡ read_rule g.H.ChainHash.numbered (code_of g.C.Code) key bytes =
-    broken shown_by c.from-residual.result p.0 c.in_err-body.field-0.0 (header_rule 2 bytes) _ p.1 p.2 c.in_err-body.ensures in
-    record { answer = is; reads = whole g key bytes _ c.type-inv.bytes is }
+    let p = err_from_is_err_and c.from_residual.result c.from_residual.ensures.1 in
+    let is : seen shown_by c.from_residual.result ≡ read_rule g.H.ChainHash.numbered (code_of g.C.Code) key bytes =
+    broken shown_by c.from_residual.result p.0 c.in_err-body.field-0.0 (header_rule 2 bytes) _ p.1 p.2 c.in_err-body.ensures in
+    record { answer = is; reads = whole g key bytes _ c.type_inv.bytes is }
 
 pub parts_of-requires : goal.parts_of-requires
 parts_of-requires g c =
@@ -46,4 +46,4 @@ returns g c =
     ∙ sym
     (after-at (header_rule 2 bytes) (drop 6 bytes) _ (header-from 2 bytes (continued 2 bytes c.in_ok-body.body.now c.in_ok-body.ensures).0)
     ∙ goes (not (suited g.H.ChainHash.numbered g.C.Code.number g.C.Code.levels key)) Parameters _ (not_from_true _ suits)) in
-    record { answer = is; reads = whole g key bytes _ c.type-inv.bytes is }
+    record { answer = is; reads = whole g key bytes _ c.type_inv.bytes is }

@@ -18,5 +18,5 @@ loop-level-preserved g c =
       | in-Some+in-ok-push w ↦
           (let pushed = ap vec_items w.nodes-is ∙ chosen _ _ _ _ w.push.ensures.items (ap is_ok w.in_ok-push.was) in
           nodes-more m n xs (vec_items c.match-held.nodes) _ c.loop-level.invariant pushed (ap (held_one n) (sym c.held.ensures.value ∙ w.in-Some.is)))
-      | in-default w ↦ ap (λ v. map node_of (vec_items v)) w.nodes-is ∙ nodes-same m n xs c.loop-level.invariant (ap (held_one n) (sym c.held.ensures.value ∙ w.in-default.is))
+      | in-default w ↦ ap (λ v. map node_of (vec_items v)) w.nodes-is ∙ nodes-same m n xs c.loop-level.invariant (ap (held_one n) (sym c.held.ensures.value ∙ w.in_default.is))
     ]

@@ -53,10 +53,10 @@ returns-in_err-release g c =
     let stamp = c.args.stamp.now in
     let bytes = c.args.bytes.now in
     let report = c.args.report.now in
-    let p = err_from_is_err_and c.from-residual.result c.from-residual.ensures.1 in
+    let p = err_from_is_err_and c.from_residual.result c.from_residual.ensures.1 in
     let e = c.in_err-release.field-0.0 in
     let is = unread hash code s stamp bytes report (reads g c.args.self.now stamp bytes report) e c.in_err-release.ensures in
-    let same : c.from-residual.result ≡ Err e = p.1 ∙ ap Err p.2 in
+    let same : c.from_residual.result ≡ Err e = p.1 ∙ ap Err p.2 in
     let answer = same ∙ refused-answer hash code s stamp bytes report e is in
     let after = refused-report hash code s stamp bytes report e is in
     record {
@@ -64,7 +64,7 @@ returns-in_err-release g c =
       report = after;
       finds = subst (λ r. Finds hash code s stamp bytes r report) (sym same) is;
       lived = λ x holds. trace-continues hash code x s holds stamp bytes report report _ answer after;
-      promise = keeps g s stamp bytes report (str-from stamp c.told-stamp c.fits-stamp) (bytes-from bytes c.type-inv.bytes) _ _ answer after;
+      promise = keeps g s stamp bytes report (str-from stamp c.told-stamp c.fits-stamp) (bytes-from bytes c.type_inv.bytes) _ _ answer after;
       wiped = c.drop-guard.ensures;
     }
 
@@ -84,7 +84,7 @@ returns-then-not-same g c =
       report = after;
       finds = is;
       lived = λ x holds. trace-continues hash code x s holds stamp bytes report report _ answer after;
-      promise = keeps g s stamp bytes report (str-from stamp c.told-stamp c.fits-stamp) (bytes-from bytes c.type-inv.bytes) _ _ answer after;
+      promise = keeps g s stamp bytes report (str-from stamp c.told-stamp c.fits-stamp) (bytes-from bytes c.type_inv.bytes) _ _ answer after;
       wiped = c.drop-guard-then-not-same.ensures;
     }
 
@@ -110,6 +110,6 @@ returns g c =
       report = after;
       finds = finds-first hash code s stamp bytes report i v is finds _ _ c.numbers.ensures c.report.ensures;
       lived = λ x holds. trace-continues hash code x s holds stamp bytes report _ _ answer after;
-      promise = keeps g s stamp bytes report (str-from stamp c.told-stamp c.fits-stamp) (bytes-from bytes c.type-inv.bytes) _ _ answer after;
+      promise = keeps g s stamp bytes report (str-from stamp c.told-stamp c.fits-stamp) (bytes-from bytes c.type_inv.bytes) _ _ answer after;
       wiped = c.drop-guard-2.ensures;
     }
