@@ -5,10 +5,10 @@ use Rattle.std.specs.List.{range_with_len, flat_map}
 use Rattle.std.proofs.lemmas.List.FromFn.{map-range_with_len_more}
 use Rattle.std.proofs.lemmas.List.{length-append, map-id, flat_map_more, take-append-le, drop-append-le, take_all, drop_at, length-drop, take-append-drop, length-take-le}
 use Rattle.std.proofs.lemmas.Bool.{cases_lt, cond-true, cond-false}
-use Rattle.strings.specs.Strings.{Bytes, Str, string_at, zero_string, numeral, xor}
+use Rattle.strings.specs.Strings.{Bytes, Str, string_at, zero_string, numeral}
 use Rattle.strings.proofs.Laws.{xor-str, numeral-str, string_at-str}
 use Rattle.tree.specs.Meaning.{Hash, Code}
-use Rattle.tree.specs.Nodes.{raise, node}
+use Rattle.tree.specs.Nodes.{node}
 use Rattle.tree.proofs.Laws.{raise-none, raise-more, node-bottom, node-parent, one-time-chain, one-time-past}
 use Rattle.growth.specs.Grown.{secret, chain_string, leaf_string, bottom, parent_at}
 use Rattle.growth.specs.Shown.{sibling_of, shown_string}

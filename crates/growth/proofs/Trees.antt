@@ -1,6 +1,6 @@
 -- The nodes of a tree, level by level, and what is held of them after one leaf more.
 -- Assumes nothing.
-use Rattle.std.proofs.Common.{◌≡◌, ℕ, zero, suc, ◌+◌, ◌-◌, ◌*◌, ◌/◌, ◌%◌, ◌^◌, ◌<◌, ◌≤◌, Bool, true, false, cond, ◌&&◌, eqb, leb, List, replicate, sym, refl, ap, ◌∙◌, ⊎_elim, mul-le-mul_right, mul_assoc, mul_comm, add-mul, one-mul, zero-mul, add-one, arith, pow_pos}
+use Rattle.std.proofs.Common.{◌≡◌, ℕ, zero, suc, ◌+◌, ◌-◌, ◌*◌, ◌/◌, ◌%◌, ◌^◌, ◌<◌, ◌≤◌, cond, ◌&&◌, eqb, leb, List, replicate, sym, refl, ap, ◌∙◌, ⊎_elim, mul-le-mul_right, mul_assoc, mul_comm, add-mul, one-mul, zero-mul, arith, pow_pos}
 use native.Mathlib.Nat.{zero-div, div_self}
 use lib.Arith.{digits_div, digits_mod}
 use Rattle.strings.proofs.Laws.{string_at-zeros}

@@ -24,7 +24,7 @@ pub struct Signer<H, C> {
     ghost sized: { (length origin.hash_key ≡ 16) × (length origin.masks ≡ 512) × (length root ≡ 16) },
     ghost fresh: { (i : ℕ) → next ≤ i → empty_row (slice_index_or ledger.rows i None) ≡ true },
     ghost seeded: { length origin.seed ≡ 16 },
-    ghost bytes: { (i : ℕ) → (slice_index origin.seed i < 256) × (get_or origin.hash_key i 0 < 256) × (slice_index origin.masks i < 256) },
+    ghost bytes: { (i : ℕ) → (slice_index origin.seed i < 256) × (slice_index origin.hash_key i < 256) × (slice_index origin.masks i < 256) },
 }
 
 // A key out of service: it signs no more. Only `retire` makes one.

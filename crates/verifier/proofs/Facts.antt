@@ -1,11 +1,11 @@
 -- What the rules of the verifier come to: an answer that is no refusal, and what then holds of the bytes.
 -- Assumes nothing.
-use Rattle.std.proofs.Common.{◌≡◌, ℕ, ◌+◌, ◌^◌, ◌<◌, ◌≤◌, Bool, true, false, cond, not, ◌||◌, eqb, ltb, leb, List, length, get_or, drop, Ok, Err, Decides, Result, sym, refl, ap, ◌∙◌, arith, w8, Fits}
+use Rattle.std.proofs.Common.{◌≡◌, ℕ, ◌+◌, ◌^◌, ◌<◌, ◌≤◌, Bool, true, false, not, eqb, ltb, leb, List, length, get_or, drop, Ok, Err, Decides, Result, sym, refl, ap, ◌∙◌, arith, w8, Fits}
 use Rattle.std.proofs.ByRecursion.{All-from_get_or}
 use Rattle.strings.specs.Strings.{Bytes}
 use Rattle.std.proofs.lemmas.Bool.{cond-false, or_parts, or_from, not-false, not_from_true, ltb-false, le-ltb, eqb-true, eq-eqb, leb-false, lt-leb, false≢true, ne_eqb, not_from_false}
 use Rattle.std.proofs.lemmas.List.{get_or-drop}
-use Rattle.tree.specs.Meaning.{Hash, Code}
+use Rattle.tree.specs.Meaning.{Code}
 use Rattle.verifier.specs.Keys.{Key, Shown}
 use Rattle.verifier.specs.Records.{field, key_length, release_length, hash_number_of, code_number_of, height_of, spare_of, leaf_of, row_of}
 use Rattle.verifier.specs.Rules.{refuse, seen, after, bad_length, bad_kind, header_rule, foreign, bad_height, open_rule, of_height, suited, read_rule}

@@ -9,9 +9,9 @@ use Rattle.strings.specs.Strings.{Bytes, little_endian}
 use Rattle.tree.specs.Meaning.{Code}
 use Rattle.verifier.specs.Keys.{Key, Shown}
 use Rattle.verifier.specs.Reads.{KeyParts, ReadsKeys, ReleaseParts, ReadsReleases}
-use Rattle.verifier.specs.Records.{framed, key_bytes, release_bytes, field, key_length, height_of, hash_key_of, masks_of, root_of, leaf_of, row_of}
+use Rattle.verifier.specs.Records.{framed, key_bytes, release_bytes, height_of, hash_key_of, masks_of, root_of, leaf_of, row_of}
 use Rattle.verifier.specs.Rules.{open_rule, suited, read_rule}
-use Rattle.verifier.proofs.Facts.{Headed, Opens, open-from, open-to, suited-to, Releases, read-from, read-to}
+use Rattle.verifier.proofs.Facts.{Headed, Opens, open-from, open-to, suited-to, read-from, read-to}
 
 -- the six header bytes are those that writing puts before the body
 pub frame : (kind : ℕ) (bytes : List ℕ) → Bytes bytes → Headed kind bytes → bytes ≡ framed kind (drop 6 bytes)

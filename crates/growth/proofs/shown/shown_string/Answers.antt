@@ -1,4 +1,4 @@
-use Rattle.std.proofs.Common.{◌≡◌, ◌-◌, ◌^◌, ◌<◌, ap, ◌∙◌, subst, arith}
+use Rattle.std.proofs.Common.{◌-◌, arith}
 use Rattle.growth.proofs.Paths.{sibling-below}
 use Rattle.growth.proofs.shown.shown_string.Goals as goal
 

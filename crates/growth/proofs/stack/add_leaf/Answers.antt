@@ -1,6 +1,6 @@
-use Rattle.std.proofs.Common.{◌≡◌, ℕ, ◌+◌, ◌-◌, ◌*◌, ◌/◌, ◌%◌, ◌^◌, ◌<◌, ◌≤◌, List, sym, refl, ap, ◌∙◌, ⊎_elim, arith}
+use Rattle.std.proofs.Common.{◌≡◌, ◌+◌, ◌-◌, ◌*◌, ◌/◌, ◌%◌, ◌^◌, ◌<◌, ◌≤◌, sym, refl, ap, ◌∙◌, ⊎_elim, arith}
 use Rattle.std.proofs.lemmas.Bool.{cases_lt, cond-false, and_left, lt-leb}
-use Rattle.strings.specs.Strings.{string_at, zero_string}
+use Rattle.strings.specs.Strings.{string_at}
 use Rattle.tree.specs.Meaning.{hash_of, code_of}
 use Rattle.growth.specs.Grown.{parent_at, node_at, held_at, Holds, carry}
 use Rattle.growth.proofs.Trees.{node-up, held-odd, held-here, held_below, held-above, not_root, fills_up, carry-odd, carry-even}

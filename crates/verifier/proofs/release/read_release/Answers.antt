@@ -1,4 +1,4 @@
-use Rattle.std.proofs.Common.{◌≡◌, ℕ, ◌^◌, ◌≤◌, true, not, List, get_or, drop, Result, sym, ap, ◌∙◌, subst, le_trans, arith, pow_mono, w8, Fits}
+use Rattle.std.proofs.Common.{◌≡◌, ℕ, ◌≤◌, true, not, List, get_or, drop, Result, sym, ◌∙◌, subst, le_trans, arith, pow_mono, w8, Fits}
 use Rattle.std.proofs.lemmas.Result.{err_from_is_err_and}
 use Rattle.std.proofs.lemmas.Bool.{not_from_true}
 use Rattle.tree.specs.Meaning.{code_of}

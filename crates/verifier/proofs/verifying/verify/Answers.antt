@@ -1,4 +1,4 @@
-use Rattle.std.proofs.Common.{◌≡◌, ℕ, ◌+◌, ◌-◌, ◌*◌, ◌≤◌, true, false, cond, not, List, length, take, drop, Ok, Err, Result, sym, ap, ◌∙◌, arith}
+use Rattle.std.proofs.Common.{◌≡◌, ℕ, ◌+◌, ◌-◌, ◌*◌, cond, not, List, length, drop, Ok, Err, sym, ap, ◌∙◌, arith}
 use Rattle.std.specs.Str.{bytes_eq}
 use Rattle.std.proofs.lemmas.List.{length-drop, length-take-le, take_all}
 use Rattle.std.proofs.lemmas.Bool.{cond-true, cond-false, not_from_false, not_from_true}
@@ -6,7 +6,7 @@ use Rattle.strings.specs.Strings.{string_at}
 use Rattle.tree.specs.Meaning.{Hash, Code, hash_of, code_of}
 use Rattle.tree.specs.Rebuilt.{rebuilt}
 use Rattle.verifier.specs.Keys.{Key, Shown}
-use Rattle.verifier.specs.Records.{key_length, release_length, hash_key_of, masks_of, root_of}
+use Rattle.verifier.specs.Records.{key_length, hash_key_of, masks_of, root_of}
 use Rattle.verifier.specs.Rules.{read_rule, root_shown, verify_rule}
 use Rattle.verifier.specs.Views.{key_of, shown_by}
 use Rattle.verifier.specs.declared.refusal.Refusal.TheVariants.{Root}

@@ -43,5 +43,13 @@ returns g c =
       wiped = c.drop-guard.ensures;
     }
 
-pub invariant-of-result : goal.invariant-of-result
-invariant-of-result g c = (c.args.self.tall, (search rules, (search rules, ((λ i le. empty-fresh _ 256 i c.empty.ensures), (search rules, (c.args.self.bytes, search rules))))))
+pub invariant_of-result : goal.invariant_of-result
+invariant_of-result g c =
+    record {
+      tall = c.args.self.tall;
+      within = search rules;
+      sized = search rules;
+      fresh = λ i le. empty-fresh _ 256 i c.empty.ensures;
+      seeded = search rules;
+      bytes = c.args.self.bytes;
+    }

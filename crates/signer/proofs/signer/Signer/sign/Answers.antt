@@ -111,9 +111,16 @@ returns g c =
       wiped = c.drop-guard-2.ensures;
     }
 
-pub invariant-of-self : goal.invariant-of-self
-invariant-of-self g c =
+pub invariant_of-self : goal.invariant_of-self
+invariant_of-self g c =
     let self = c.args.self.now in
     let tall = self.tall in
     let shift = one_shl self.origin.height 16 (omega arith) in
-    (tall, (omega (arith, self.within, c.if-leaf-self.false), (self.sized, (enter-fresh _ _ self.next _ c.enter.ensures self.fresh, (self.seeded, (self.bytes, search rules))))))
+    record {
+      tall = tall;
+      within = omega (arith, self.within, c.if-leaf-self.false);
+      sized = self.sized;
+      fresh = enter-fresh _ _ self.next _ c.enter.ensures self.fresh;
+      seeded = self.seeded;
+      bytes = self.bytes;
+    }
