@@ -19,7 +19,7 @@ loop-i-preserved c =
     let xs = c.args.text.now in
     let i = c.loop-i.i in
     let within : 2 * i + 1 < length xs = omega arith in
-    let pushed = chosen _ _ _ _ c.push.ensures.items (ap is_ok c.in_ok-push.was) in
+    let pushed = chosen _ _ _ _ c.push.ensures.items (ap is_ok c.in_ok-push-in-Some.was) in
     hex-more xs (vec_items c.loop-i.out) i c.in-Some.byte within (sym c.byte.ensures ∙ c.in-Some.is) c.loop-i.invariant
     ∙ ap (λ t. following t (hex_bytes (drop (2 * (i + 1)) xs))) (sym pushed)
 
