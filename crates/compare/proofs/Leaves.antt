@@ -6,7 +6,7 @@ use lib.Arith.{digits_lt}
 use Rattle.std.proofs.lemmas.Nat.{pow-add}
 use Rattle.std.specs.Option.{option_or}
 use Rattle.tree.specs.Meaning.{Hash, Code}
-use Rattle.tree.specs.Nodes.{join, node}
+use Rattle.tree.specs.Nodes.{node}
 use Rattle.tree.proofs.Laws.{node-moved}
 use Rattle.growth.specs.Grown.{leaf_string, parent_at}
 use Rattle.compare.specs.Search.{first_from, child_find, depth_search, node_find_at, level_search, node_search}

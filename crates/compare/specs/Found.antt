@@ -4,7 +4,6 @@ use Rattle.std.specs.Prelude.{◌≡◌, ℕ, ◌+◌, ◌-◌, ◌/◌, ◌^◌
 use Rattle.strings.specs.Strings.{zero_string}
 use Rattle.tree.specs.Meaning.{Hash, Code}
 use Rattle.compare.specs.Sides.{Traced, our_chain, their_chain, our_node, their_node, left_input, right_input, revealed_height}
-use Rattle.compare.specs.declared.verdict.Find.{Find}
 use Rattle.compare.specs.declared.verdict.Verdict.{Verdict}
 use Rattle.compare.specs.declared.verdict.Verdict.TheVariants.{Ours, Node, Chain, Unrevealed}
 

@@ -5,7 +5,7 @@ use Rattle.growth.specs.declared.origin.Origin.{Origin}
 use Rattle.strings.specs.Strings.{Str}
 use Rattle.tree.specs.Meaning.{Hash, Code}
 use Rattle.verifier.specs.declared.refusal.Refusal.{Refusal}
-use Rattle.histories.specs.Histories.{State, growing, serving, retired, IsSigner, Event, grow, finish, key, sign, skip, retire, trace, History, Begun, Lived, begun, grown, finished, keyed, signed, skipped, retires, traced, Continues}
+use Rattle.histories.specs.Histories.{State, growing, serving, retired, IsSigner, Event, grow, finish, key, sign, skip, retire, trace, Begun, Lived, begun, grown, finished, keyed, signed, skipped, retires, traced, Continues}
 use Rattle.histories.specs.Rules.{begin_rule, grow_answer, grow_leaves, finish_rule, key_answer, key_output, sign_answer, sign_state, sign_output, skip_answer, skip_state, trace_answer, trace_report}
 use Rattle.histories.specs.States.{Making, Signing}
 

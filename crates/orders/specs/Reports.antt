@@ -4,7 +4,7 @@ use Rattle.std.specs.Prelude.{◌≡◌, ℕ, List, [], Some, None, Ok, Err, vec
 use Rattle.tree.specs.Meaning.{Hash, Code}
 use Rattle.verifier.specs.Keys.{Key}
 use Rattle.verifier.specs.Records.{hash_number_of, code_number_of}
-use Rattle.verifier.specs.Rules.{after, header_rule, open_rule, verify_rule}
+use Rattle.verifier.specs.Rules.{header_rule, open_rule, verify_rule}
 use Rattle.verifier.specs.declared.refusal.Refusal.{Refusal}
 use Rattle.verifier.specs.declared.refusal.Refusal.TheVariants.{Parameters}
 use Rattle.orders.specs.Known.{hash_numbered, code_numbered}

@@ -1,6 +1,6 @@
 -- The nodes that a maker holds, level by level.
 -- Assumes nothing.
-use Rattle.std.proofs.Common.{◌≡◌, ℕ, ◌+◌, List, [], ◌∷◌, ◌++◌, map, sym, refl, ap, ◌∙◌, append-nil, add-one}
+use Rattle.std.proofs.Common.{◌≡◌, ℕ, ◌+◌, List, [], ◌∷◌, ◌++◌, map, sym, ap, ◌∙◌, append-nil, add-one}
 use Rattle.std.proofs.lemmas.List.{map-append}
 use Rattle.histories.specs.Rules.{held_rule}
 use Rattle.histories.specs.States.{Making}

@@ -4,7 +4,7 @@ use Rattle.std.proofs.Common.{◌≡◌, ℕ, suc, ◌+◌, ◌-◌, ◌<◌, Li
 use Rattle.growth.specs.Grown.{with_leaf}
 use Rattle.growth.specs.declared.origin.Origin.{Origin}
 use Rattle.tree.specs.Meaning.{Hash, Code}
-use Rattle.histories.specs.Rules.{leaf_more, leaves_more}
+use Rattle.histories.specs.Rules.{leaves_more}
 use Rattle.histories.specs.States.{Making}
 
 module _ (hash : Hash) (code : Code) where

@@ -1,6 +1,6 @@
 -- What a signer holds, by its type.
 -- Assumes nothing.
-use Rattle.std.proofs.Common.{◌≡◌, ℕ, ◌<◌, List}
+use Rattle.std.proofs.Common.{ℕ, ◌<◌, List}
 use Rattle.std.proofs.ByRecursion.{All-from_get_or}
 use Rattle.growth.proofs.Strings.{Strings}
 use Rattle.strings.specs.Strings.{Str}

@@ -1,4 +1,4 @@
-use Rattle.std.proofs.Common.{◌≡◌, ℕ, List, Some, Ok, ap, ◌∙◌}
+use Rattle.std.proofs.Common.{◌≡◌, Some, Ok, ap, ◌∙◌}
 use Rattle.histories.specs.Rules.{held_rule}
 use Rattle.histories.specs.States.{Making}
 use Rattle.signer.specs.Views.{making_of}

@@ -1,4 +1,4 @@
-use Rattle.std.proofs.Common.{◌≡◌, ◌-◌, ◌≤◌}
+use Rattle.std.proofs.Common.{◌≡◌, ◌-◌}
 use Rattle.tree.specs.Nodes.{raise}
 use Rattle.compare.specs.Search.{last_from, step_find}
 use Rattle.compare.proofs.chains.climb_both.Given as goal

@@ -1,11 +1,11 @@
-use Rattle.std.proofs.Common.{◌≡◌, ℕ, ◌+◌, ◌-◌, ◌*◌, ◌^◌, ◌<◌, ◌≤◌, List, sym, ap, ◌∙◌, subst, arith, pow_pos, pow_mono}
+use Rattle.std.proofs.Common.{◌≡◌, ℕ, ◌+◌, ◌-◌, ◌*◌, ◌^◌, ◌<◌, ◌≤◌, List, sym, ap, ◌∙◌, subst, arith, pow_mono}
 use Rattle.std.specs.Option.{option_or}
 use Rattle.strings.specs.Strings.{string_at}
 use Rattle.tree.specs.Meaning.{hash_of, code_of}
 use Rattle.tree.specs.Nodes.{node}
 use Rattle.growth.specs.Grown.{parent_at}
 use Rattle.compare.specs.Found.{Found}
-use Rattle.compare.specs.Search.{first_from, depth_search, level_search, chosen, found}
+use Rattle.compare.specs.Search.{first_from, depth_search, chosen, found}
 use Rattle.compare.specs.Sides.{our_node, their_node}
 use Rattle.compare.specs.Views.{traced_of}
 use Rattle.compare.proofs.Leaves.{our-node, their-node, nodes-all}

@@ -1,7 +1,7 @@
-use Rattle.std.proofs.Common.{◌≡◌, ◌-◌, ◌<◌, ◌≤◌, length, take, drop, ap, ◌∙◌, arith}
+use Rattle.std.proofs.Common.{◌≡◌, ◌-◌, ◌≤◌, length, take, drop, ap, ◌∙◌, arith}
 use Rattle.std.proofs.lemmas.List.{length-take, length-drop, take_rest}
 use Rattle.tree.specs.Meaning.{hash_of, code_of}
-use Rattle.orders.specs.Outcomes.{record_length, first_record, after_record}
+use Rattle.orders.specs.Outcomes.{first_record, after_record}
 use Rattle.orders.proofs.Orders.{short-more, order-more}
 use Rattle.verifier.specs.Rules.{verify_rule}
 use Rattle.verifier.specs.Views.{key_of}

@@ -1,4 +1,4 @@
-use Rattle.std.proofs.Common.{◌≡◌, length, is_ok, vec_items, ap, arith, true-eqb}
+use Rattle.std.proofs.Common.{is_ok, vec_items, ap, arith, true-eqb}
 use Rattle.std.proofs.ResultArms.{chosen}
 use Rattle.tree.specs.Meaning.{hash_of, code_of}
 use Rattle.orders.proofs.Orders.{sofar-more, sofar-all, outcomes-unique}

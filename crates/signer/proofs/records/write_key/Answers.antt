@@ -1,4 +1,4 @@
-use Rattle.std.proofs.Common.{◌≡◌, ◌+◌, ◌-◌, List, ◌++◌, length, drop, ap, ◌∙◌, arith, rules}
+use Rattle.std.proofs.Common.{◌≡◌, ◌+◌, ◌-◌, ◌++◌, length, drop, ap, ◌∙◌, arith, rules}
 use Rattle.strings.specs.Strings.{little_endian}
 use Rattle.signer.proofs.KeyRecord.{six-parts, framed_is, four-long}
 use Rattle.signer.proofs.records.write_key.Goals as goal

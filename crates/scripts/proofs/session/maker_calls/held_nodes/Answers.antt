@@ -1,7 +1,7 @@
-use Rattle.std.proofs.Common.{◌≡◌, map, is_ok, vec_items, sym, ap, ◌∙◌}
+use Rattle.std.proofs.Common.{map, is_ok, vec_items, sym, ap, ◌∙◌}
 use Rattle.std.proofs.ResultArms.{chosen}
 use Rattle.signer.specs.Views.{making_of}
-use Rattle.scripts.specs.Replies.{node_of, held_one, held_below}
+use Rattle.scripts.specs.Replies.{node_of, held_one}
 use Rattle.scripts.proofs.Nodes.{held_none, nodes-more, nodes-same}
 use Rattle.scripts.proofs.session.maker_calls.held_nodes.Goals as goal
 use Rattle.scripts.proofs.session.maker_calls.held_nodes.Goals.{in-Some+in_ok-push, in_default}

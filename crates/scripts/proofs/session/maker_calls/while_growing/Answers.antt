@@ -1,4 +1,4 @@
-use Rattle.std.proofs.Common.{◌≡◌, sym, ap, ◌∙◌}
+use Rattle.std.proofs.Common.{sym, ap, ◌∙◌}
 use Rattle.histories.specs.Histories.{growing, serving}
 use Rattle.signer.specs.Views.{making_of}
 use Rattle.tree.specs.Meaning.{hash_of, code_of}

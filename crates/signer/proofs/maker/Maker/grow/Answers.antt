@@ -1,4 +1,4 @@
-use Rattle.std.proofs.Common.{◌≡◌, ◌+◌, Ok, Err, Result, rules}
+use Rattle.std.proofs.Common.{◌≡◌, ◌+◌, Ok, Err, rules}
 use Rattle.histories.specs.Rules.{grow_answer, grow_leaves}
 use Rattle.histories.proofs.Continuing.{grow-continues}
 use Rattle.tree.specs.Meaning.{hash_of, code_of}

@@ -1,4 +1,4 @@
-use Rattle.std.proofs.Common.{◌≡◌, ℕ, ◌+◌, ◌*◌, ◌%◌, ◌^◌, ◌<◌, ◌≤◌, true, false, cond, ◌||◌, ltb, List, ◌++◌, length, drop, Ok, Err, Result, sym, ap, ◌∙◌, arith, pow_mono, rules}
+use Rattle.std.proofs.Common.{◌≡◌, ℕ, ◌+◌, ◌*◌, ◌^◌, ◌<◌, ◌≤◌, true, false, cond, ◌||◌, List, length, Ok, Err, Result, sym, ap, ◌∙◌, arith, pow_mono}
 use Rattle.std.proofs.lemmas.Nat.{one_shl}
 use Rattle.std.proofs.lemmas.Bool.{cond-true, cond-false, eq-eqb, or_from, ne_eqb, lt-ltb, le-ltb}
 use Rattle.strings.specs.Strings.{Str}
@@ -7,7 +7,6 @@ use Rattle.tree.specs.Meaning.{hash_of, code_of}
 use Rattle.verifier.specs.declared.refusal.Refusal.{Refusal}
 use Rattle.verifier.specs.declared.refusal.Refusal.TheVariants.{Spent, Output}
 use Rattle.histories.specs.Rules.{release_size, release_record, all_spent, no_room, Rooted, Accepted, Accepts}
-use Rattle.histories.specs.States.{Signing}
 use Rattle.signer.specs.Views.{signing_of}
 use Rattle.signer.specs.declared.signer.Signer.{Signer}
 use Rattle.histories.proofs.Accepting.{accepting, verifying}

@@ -1,6 +1,5 @@
-use Rattle.std.proofs.Common.{◌≡◌, ℕ, true, false, List, Ok, Err, Result, sym, refl, ap, ◌∙◌, subst}
+use Rattle.std.proofs.Common.{◌≡◌, ℕ, List, Ok, Err, Result, sym, ap, ◌∙◌, subst}
 use Rattle.std.proofs.lemmas.Result.{err_from_is_err_and}
-use Rattle.compare.specs.Found.{verdict_numbers, verdict_report}
 use Rattle.compare.specs.Search.{found}
 use Rattle.histories.specs.Promise.{Promise, Promised}
 use Rattle.histories.specs.Rules.{trace_answer, trace_report, Finds}
