@@ -3,7 +3,7 @@
 use Rattle.std.specs.Prelude.{◌≡◌, ℕ, zero, suc, ◌+◌, ◌-◌, ◌*◌, ◌/◌, ◌%◌, ◌^◌, ◌<◌, ◌≤◌, ◌⊎◌, List, [], ◌∷◌, ◌++◌, length, get_or, drop, ◌≢◌, slice_index, slice_index_or, refl}
 use Rattle.std.proofs.Common.{sym, ap, ◌∙◌, inl, inr, ⊎_elim, mod-eq_of_lt, le_of_suc-le-suc, mul-zero, mul-suc, zero-mul, zero-add, mul-le-mul_left, arith, lit<}
 use Rattle.std.proofs.Math.Nat.{mod-one, mul-div_right, mul-sub}
-use Rattle.std.specs.List.{AllByRecursion as All}
+use Rattle.std.specs.List.{AllByRecursion}
 use Rattle.std.proofs.lemmas.Nat.{mod-pow-add, pow_pos, mod_below, div_below, le-div, mul-le, mul-add-lt, div-add-mod', pow_below}
 use Rattle.std.proofs.lemmas.List.{length-append, get_or_append_left, get_or-append_right, get_or-append-add, get_or_past, ext_get_or, at_drop_more, at_drop_all}
 use Rattle.std.proofs.ByRecursion.{All-get_or, All-append, All-from_get_or}
@@ -42,7 +42,7 @@ get_or-ending w (suc n) c zero d h = ap (λ t. c / 2 ^ (w * t) % 2 ^ w) (omega a
 get_or-ending w (suc n) c (suc i) d h =
     get_or-ending w n c i d (le_of_suc-le-suc h) ∙ ap (λ t. c / 2 ^ (w * t) % 2 ^ w) (omega arith)
 
-pub ending-below : (w n c : ℕ) → All (λ x. x < 2 ^ w) (ending w n c)
+pub ending-below : (w n c : ℕ) → AllByRecursion (λ x. x < 2 ^ w) (ending w n c)
 unfolding ending
 ending-below w zero c = tt
 ending-below w (suc n) c = (mod_below (c / 2 ^ (w * n)) (2 ^ w) (pow_pos w), ending-below w n c)
@@ -88,7 +88,7 @@ checksum-le w [] = omega arith
 checksum-le w (d ∷ ds) = omega (arith, checksum-le w ds)
 
 -- Of two lists of digits the first has a smaller digit, or they are the same, or the first has a smaller checksum.
-pub compared : (w d : ℕ) (xs ys : List ℕ) → length xs ≡ length ys → All (λ x. x < 2 ^ w) xs → Smaller d xs ys ⊎ ((xs ≡ ys) ⊎ (checksum w xs < checksum w ys))
+pub compared : (w d : ℕ) (xs ys : List ℕ) → length xs ≡ length ys → AllByRecursion (λ x. x < 2 ^ w) xs → Smaller d xs ys ⊎ ((xs ≡ ys) ⊎ (checksum w xs < checksum w ys))
 unfolding checksum
 compared w d [] [] e a = inr (inl refl)
 compared w d [] (y ∷ ys) e a = absurd (omega arith)
@@ -111,7 +111,7 @@ compared w d (x ∷ xs) (y ∷ ys) e a =
     (cases_lt x y)
 
 -- Of two different lists of digits, each has a digit in its codeword that is smaller than the other's.
-pub codeword-smaller : (w n d : ℕ) (xs ys : List ℕ) → length xs ≡ length ys → All (λ x. x < 2 ^ w) xs → checksum w xs < 2 ^ (w * n) → checksum w ys < 2 ^ (w * n) → (xs ≢ ys) → Smaller d (codeword w n xs) (codeword w n ys)
+pub codeword-smaller : (w n d : ℕ) (xs ys : List ℕ) → length xs ≡ length ys → AllByRecursion (λ x. x < 2 ^ w) xs → checksum w xs < 2 ^ (w * n) → checksum w ys < 2 ^ (w * n) → (xs ≢ ys) → Smaller d (codeword w n xs) (codeword w n ys)
 codeword-smaller w n d xs ys e a hx hy ne =
     ⊎_elim
     (smaller-left d xs ys _ _ e)
@@ -134,7 +134,7 @@ pub get_or-cut : (w : ℕ) (m : List ℕ) (k d : ℕ) → k < 128 / w → slice_
 unfolding cut
 get_or-cut w m k d h = get_or-map-range_with_len (bits w m) 0 (128 / w) k k d h (zero-add k)
 
-pub cut_below : (w : ℕ) (m : List ℕ) → All (λ x. x < 2 ^ w) (cut w m)
+pub cut_below : (w : ℕ) (m : List ℕ) → AllByRecursion (λ x. x < 2 ^ w) (cut w m)
 cut_below w m =
     All-from_get_or (λ x. x < 2 ^ w) (cut w m) 0 (λ i h.
     let in' : i < 128 / w = omega (arith, length_cut w m) in
@@ -223,7 +223,7 @@ pub winternitz-within : (w n : ℕ) (m : List ℕ) (k : ℕ) → winternitz w n 
 winternitz-within w n m k =
     let word = codeword w n (cut w m) in
     let d = 2 ^ w - 1 in
-    let small : All (λ x. x < 2 ^ w) word = All-append (λ x. x < 2 ^ w) (cut w m) _ (cut_below w m) (ending-below w n (checksum w (cut w m))) in
+    let small : AllByRecursion (λ x. x < 2 ^ w) word = All-append (λ x. x < 2 ^ w) (cut w m) _ (cut_below w m) (ending-below w n (checksum w (cut w m))) in
     ⊎_elim
     (λ (lt : k < length word). omega (arith, All-get_or (λ x. x < 2 ^ w) word k d lt small))
     (λ (le : length word ≤ k). omega (arith, get_or_past word k d le))

@@ -1,21 +1,21 @@
 -- The examples up to the signer, each by computing it.
 -- Assumes nothing.
 use Rattle.std.proofs.Common.{refl}
-use Rattle.std.specs.List.{AllByRecursion as All}
+use Rattle.std.specs.List.{AllByRecursion}
 use Rattle.codes.specs.Codes.{checksum, ending, cut}
 use Rattle.strings.specs.Strings.{numeral}
 use Rattle.examples.specs.Examples.{Right, hashing, coding, measuring, skipping}
 
-pub hashing-right : All Right hashing
+pub hashing-right : AllByRecursion Right hashing
 unfolding numeral
 hashing-right = (refl, (refl, (refl, (refl, (refl, (refl, tt))))))
 
-pub coding-right : All Right coding
+pub coding-right : AllByRecursion Right coding
 unfolding checksum ending cut
 coding-right = (refl, (refl, (refl, (refl, (refl, (refl, (refl, tt)))))))
 
-pub measuring-right : All Right measuring
+pub measuring-right : AllByRecursion Right measuring
 measuring-right = (refl, (refl, tt))
 
-pub skipping-right : All Right skipping
+pub skipping-right : AllByRecursion Right skipping
 skipping-right = (refl, (refl, (refl, (refl, (refl, tt)))))

@@ -1,7 +1,7 @@
 -- The examples of trace: the signer and its records are computed once, and then each trace over them.
 -- Assumes nothing.
 use Rattle.std.proofs.Common.{◌≡◌, ℕ, zero, suc, ◌+◌, ◌-◌, ◌*◌, ◌/◌, ◌%◌, ◌^◌, ◌<◌, ◌≤◌, cond, eqb, ltb, List, [], ◌∷◌, map, get_or, set, replicate, Some, None, Ok, sym, refl, ap, ◌∙◌, subst, zero-add, arith, lit≤}
-use Rattle.std.specs.List.{range_with_len, flat_map, AllByRecursion as All}
+use Rattle.std.specs.List.{range_with_len, flat_map, AllByRecursion}
 use Rattle.std.proofs.lemmas.List.FromFn.{get_or-map-range_with_len}
 use Rattle.strings.specs.Strings.{numeral, string_at}
 use Rattle.tree.specs.Nodes.{raise, node, climb}
@@ -156,6 +156,6 @@ two_is = ap (λ r. changed 3 0 (changed 1 1 r)) zeros-is
 shown-is : (k : ℕ) → shown k ≡ gives (string_at (row_of zeros) k)
 shown-is k = ap (λ r. gives (string_at (row_of r) k)) zeros-is
 
-pub tracing-right : All Right tracing
+pub tracing-right : AllByRecursion Right tracing
 unfolding zeros row shown_string find
 tracing-right = (shown-is 1, (shown-is 3, (shown-is 6, (verdict-is zeros-is ours, (verdict-is one-is one, (reported-is one-is one 2, (verdict-is two_is two, (reported-is two_is two 4, (verdict-is high_is other, tt)))))))))

@@ -1,7 +1,7 @@
 -- Worked examples: what is computed, and what it must be.
 -- Assumes nothing.
 use Rattle.std.specs.Prelude.{◌≡◌, ℕ, List, [], ◌∷◌, ◌++◌, map, take, replicate, Ok, Err, Result}
-use Rattle.std.specs.List.{range_with_len, flat_map, AllByRecursion as All}
+use Rattle.std.specs.List.{range_with_len, flat_map, AllByRecursion}
 use Rattle.strings.specs.Strings.{string_at, put_string}
 use Rattle.codes.specs.Codes.{checksum, ending}
 use Rattle.tree.specs.Meaning.{Code}
@@ -163,4 +163,4 @@ unfoldable pub examples : List Example
 examples = hashing ++ (coding ++ (measuring ++ (skipping ++ tracing)))
 
 abbrev pub Worked : Type 0
-Worked = All Right examples
+Worked = AllByRecursion Right examples

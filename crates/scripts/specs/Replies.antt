@@ -2,7 +2,7 @@
 -- Assumes nothing.
 use Rattle.std.specs.Prelude.{ℕ, zero, suc, List, [], ◌∷◌, ◌++◌, map, take, replicate, Some, None, Ok, Err, vec_items, Option, Result}
 use Rattle.histories.specs.Histories.{State, growing, serving, retired}
-use Rattle.histories.specs.Rules as rules
+use Rattle.histories.specs.Rules as signer_rules
 use Rattle.histories.specs.States.{Making, Signing}
 use Rattle.signer.specs.Views.{making_of, signing_of}
 use Rattle.tree.specs.Meaning.{Hash, Code}
@@ -63,7 +63,7 @@ held_one a (Some x) = record { level = a; position = x.0; node = x.1 } ∷ []
 -- the nodes of the first n levels that are held
 unfoldable pub held_below : Making → ℕ → List Held
 held_below m zero = []
-held_below m (suc n) = held_below m n ++ held_one n (rules.held_rule m n)
+held_below m (suc n) = held_below m n ++ held_one n (signer_rules.held_rule m n)
 
 -- a key has no more than nine levels above its leaves' chains
 abbrev pub held_nodes : Making → List Held
@@ -75,19 +75,19 @@ output room = replicate room 0
 
 module _ (hash : Hash) (code : Code) where
   abbrev pub key_reply : Signing → ℕ → Told
-  key_reply s room = answered (λ n. keyed (take n (rules.key_output hash code s (output room)))) (rules.key_answer code s (output room))
+  key_reply s room = answered (λ n. keyed (take n (signer_rules.key_output hash code s (output room)))) (signer_rules.key_answer code s (output room))
 
   abbrev pub sign_reply : Signing → List ℕ → ℕ → Told
   sign_reply s stamp room =
-      answered (λ x. signed x.1 (take x.0 (rules.sign_output hash code s stamp (output room)))) (rules.sign_answer code s (output room))
+      answered (λ x. signed x.1 (take x.0 (signer_rules.sign_output hash code s stamp (output room)))) (signer_rules.sign_answer code s (output room))
 
   abbrev pub trace_reply : Signing → List ℕ → List ℕ → Told
   trace_reply s stamp bytes =
-      answered (λ x. verdict x (rules.trace_report hash code s stamp bytes (output 64))) (rules.trace_answer hash code s stamp bytes)
+      answered (λ x. verdict x (signer_rules.trace_report hash code s stamp bytes (output 64))) (signer_rules.trace_answer hash code s stamp bytes)
 
   -- the answer to a call, in each state
   abbrev pub reply : State → Said → Told
-  reply (growing m) grow = answered grown (rules.grow_answer m)
+  reply (growing m) grow = answered grown (signer_rules.grow_answer m)
   reply (growing m) nodes = held (held_nodes m)
   reply (growing m) finish = finished
   reply (growing m) (key room) = not-now
@@ -100,7 +100,7 @@ module _ (hash : Hash) (code : Code) where
   reply (serving s) finish = not-now
   reply (serving s) (key room) = key_reply s room
   reply (serving s) (sign stamp room) = sign_reply s stamp room
-  reply (serving s) (skip leaf) = answered next (rules.skip_answer s leaf)
+  reply (serving s) (skip leaf) = answered next (signer_rules.skip_answer s leaf)
   reply (serving s) retire = gone
   reply (serving s) (trace stamp bytes) = trace_reply s stamp bytes
   reply (retired s) grow = not-now
@@ -114,9 +114,9 @@ module _ (hash : Hash) (code : Code) where
 
   -- the state after it
   abbrev pub leaves : State → Said → State
-  leaves (growing m) grow = growing (rules.grow_leaves hash code m)
+  leaves (growing m) grow = growing (signer_rules.grow_leaves hash code m)
   leaves (growing m) nodes = growing m
-  leaves (growing m) finish = serving (rules.finish_rule hash code m)
+  leaves (growing m) finish = serving (signer_rules.finish_rule hash code m)
   leaves (growing m) (key room) = growing m
   leaves (growing m) (sign stamp room) = growing m
   leaves (growing m) (skip leaf) = growing m
@@ -126,8 +126,8 @@ module _ (hash : Hash) (code : Code) where
   leaves (serving s) nodes = serving s
   leaves (serving s) finish = serving s
   leaves (serving s) (key room) = serving s
-  leaves (serving s) (sign stamp room) = serving (rules.sign_state code s stamp (output room))
-  leaves (serving s) (skip leaf) = serving (rules.skip_state s leaf)
+  leaves (serving s) (sign stamp room) = serving (signer_rules.sign_state code s stamp (output room))
+  leaves (serving s) (skip leaf) = serving (signer_rules.skip_state s leaf)
   leaves (serving s) retire = retired s
   leaves (serving s) (trace stamp bytes) = serving s
   leaves (retired s) grow = retired s

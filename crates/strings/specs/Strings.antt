@@ -1,11 +1,11 @@
 -- Strings of 16 bytes as lists of numbers: what the functions of this crate answer.
 -- Assumes nothing.
 use Rattle.std.specs.Prelude.{◌≡◌, ℕ, ◌+◌, ◌*◌, ◌/◌, ◌%◌, ◌^◌, ◌<◌, List, [], ◌∷◌, ◌++◌, map, length, take, drop, replicate, bit_xor}
-use Rattle.std.specs.List.{range_with_len, AllByRecursion as All}
+use Rattle.std.specs.List.{range_with_len, AllByRecursion}
 
 -- a byte is a number below 256
 abbrev pub Bytes : List ℕ → Type 0
-Bytes s = All (λ b. b < 256) s
+Bytes s = AllByRecursion (λ b. b < 256) s
 
 -- a string: 16 bytes
 abbrev pub Str : List ℕ → Type 0
