@@ -4,8 +4,9 @@
 usage: python3 tools/respell.py      at the top of the repository, once, right after port.py
 
 Every name of specs/ and proofs/ that begins with a small letter and has a capital in it is turned: stringAt to string_at,
-length-stringAt to length-string_at, powerOfX to power_of_x. `getD` is the library's `get_or`. Functions of src/ have no such
-names. `roundKey` is `key_of_round`: parameters are called round_key. Stops, and changes nothing, where two names would fall together in one file that did not before.
+length-stringAt to length-string_at, powerOfX to power_of_x. `getD` is the library's `get_or`. `roundKey` is `key_of_round`, since
+parameters are called round_key. Constructors whose parts were joined by a dash are turned too: node-break to node_break.
+Functions of src/ have no such names. Stops, and changes nothing, where two names of one file would fall together.
 """
 
 import os
@@ -15,6 +16,7 @@ import sys
 NAME = re.compile(r"(?<![A-Za-z0-9_])[a-z][a-z0-9]*[A-Z][A-Za-z0-9]*(?![A-Za-z0-9_])")
 WORD = re.compile(r"(?<![A-Za-z0-9_.-])[a-z][A-Za-z0-9_'-]*")
 WHOLE = re.compile(r"(?<![A-Za-z0-9_-])[a-z][A-Za-z0-9_'-]*")
+CONSTRUCTOR = re.compile(r"(?<![\w'-])(node-break|chain-break|pair-break|step-break|in-service|out-of-service|not-now)(?![\w'-])")
 OWN = {"getD": "get_or", "roundKey": "key_of_round"}
 
 
@@ -59,6 +61,8 @@ def main():
     n = 0
     for p, t in found.items():
         new = NAME.sub(lambda m: snake(m.group()), t)
+        if p.endswith(".antt"):
+            new = CONSTRUCTOR.sub(lambda m: m.group().replace("-", "_"), new)
         if new != t:
             n += 1
             with open(p, "w", encoding="utf-8") as f:

@@ -12,7 +12,7 @@ use Rattle.std.proofs.lemmas.Bool.Decides.{Decides-and, Decides-not, Decides-ltb
 use Rattle.tree.specs.Meaning.{Hash, Code}
 use Rattle.compare.specs.Sides.{Traced}
 use Rattle.compare.specs.Search.{first_from, last_from, chosen, node_find_at, width, first_place, level_search, node_search, chain_find_at, height_search, chain_search, hidden_find_at, hidden_search, found}
-use Rattle.compare.specs.Found.{NodeBreak, ChainBreak, Hidden, node_report, chain_report, hidden_report, Found, node-break, chain-break, unrevealed, ours}
+use Rattle.compare.specs.Found.{NodeBreak, ChainBreak, Hidden, node_report, chain_report, hidden_report, Found, node_break, chain_break, unrevealed, ours}
 use Rattle.compare.specs.declared.verdict.Find.{Find}
 use Rattle.compare.specs.declared.verdict.Verdict.{Verdict}
 use Rattle.compare.specs.declared.verdict.Verdict.TheVariants.{Node, Chain, Unrevealed}
@@ -267,8 +267,8 @@ module _ (hash : Hash) (code : Code) (t : Traced) where
       })
 
   chosen-found : (o p q : Option Find) → NodesOf o → ChainsOf p → HiddenOf q → Found hash code t (chosen o p q)
-  chosen-found (Some x) p q n c u = subst (λ y. Found hash code t (Node y)) (sym n.is) (node-break n.row n.place n.breaks n.least)
-  chosen-found None (Some x) q n c u = subst (λ y. Found hash code t (Chain y)) (sym c.is) (chain-break n c.row c.place c.breaks c.least)
+  chosen-found (Some x) p q n c u = subst (λ y. Found hash code t (Node y)) (sym n.is) (node_break n.row n.place n.breaks n.least)
+  chosen-found None (Some x) q n c u = subst (λ y. Found hash code t (Chain y)) (sym c.is) (chain_break n c.row c.place c.breaks c.least)
   chosen-found None None (Some x) n c u = subst (λ y. Found hash code t (Unrevealed y)) (sym u.is) (unrevealed n c u.place u.hides u.least)
   chosen-found None None None n c u = ours n c u
 
@@ -279,20 +279,20 @@ module _ (hash : Hash) (code : Code) (t : Traced) where
 
   -- two verdicts that are both to be found are one
   found-one : {v w : Verdict} → Found hash code t v → Found hash code t w → v ≡ w
-  found-one (node-break a b n least) (node-break a' b' n' least') = let e = same-pair a b a' b' (least a' b' n') (least' a b n) in λ i. Node (node_find (e.0 i) (e.1 i))
-  found-one (node-break a b n _) (chain-break none _ _ _ _) = absurd (none a b n)
-  found-one (node-break a b n _) (unrevealed none _ _ _ _) = absurd (none a b n)
-  found-one (node-break a b n _) (ours none _ _) = absurd (none a b n)
-  found-one (chain-break none _ _ _ _) (node-break a b n _) = absurd (none a b n)
-  found-one (chain-break _ k e c least) (chain-break _ k' e' c' least') = let p = same-pair k e' k' e (least k' e' c') (least' k e c) in λ i. Chain (chain_find (p.0 i) (sym p.1 i))
-  found-one (chain-break _ k e c _) (unrevealed _ none _ _ _) = absurd (none k e c)
-  found-one (chain-break _ k e c _) (ours _ none _) = absurd (none k e c)
-  found-one (unrevealed none _ _ _ _) (node-break a b n _) = absurd (none a b n)
-  found-one (unrevealed _ none _ _ _) (chain-break _ k e c _) = absurd (none k e c)
+  found-one (node_break a b n least) (node_break a' b' n' least') = let e = same-pair a b a' b' (least a' b' n') (least' a b n) in λ i. Node (node_find (e.0 i) (e.1 i))
+  found-one (node_break a b n _) (chain_break none _ _ _ _) = absurd (none a b n)
+  found-one (node_break a b n _) (unrevealed none _ _ _ _) = absurd (none a b n)
+  found-one (node_break a b n _) (ours none _ _) = absurd (none a b n)
+  found-one (chain_break none _ _ _ _) (node_break a b n _) = absurd (none a b n)
+  found-one (chain_break _ k e c least) (chain_break _ k' e' c' least') = let p = same-pair k e' k' e (least k' e' c') (least' k e c) in λ i. Chain (chain_find (p.0 i) (sym p.1 i))
+  found-one (chain_break _ k e c _) (unrevealed _ none _ _ _) = absurd (none k e c)
+  found-one (chain_break _ k e c _) (ours _ none _) = absurd (none k e c)
+  found-one (unrevealed none _ _ _ _) (node_break a b n _) = absurd (none a b n)
+  found-one (unrevealed _ none _ _ _) (chain_break _ k e c _) = absurd (none k e c)
   found-one (unrevealed _ _ k u least) (unrevealed _ _ k' u' least') = let p : k ≡ k' = omega (arith, least k' u', least' k u) in λ i. Unrevealed (hidden_find_of (p i))
   found-one (unrevealed _ _ k u _) (ours _ _ none) = absurd (none k u)
-  found-one (ours none _ _) (node-break a b n _) = absurd (none a b n)
-  found-one (ours _ none _) (chain-break _ k e c _) = absurd (none k e c)
+  found-one (ours none _ _) (node_break a b n _) = absurd (none a b n)
+  found-one (ours _ none _) (chain_break _ k e c _) = absurd (none k e c)
   found-one (ours _ _ none) (unrevealed _ _ k u _) = absurd (none k u)
   found-one (ours _ _ _) (ours _ _ _) = refl
 

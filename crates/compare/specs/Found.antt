@@ -43,8 +43,8 @@ module _ (hash : Hash) (code : Code) (t : Traced) where
 -- the lowest level, then the lowest position; else the lowest chain, then the greatest height; else the lowest chain whose
 -- string was not revealed; else the record is ours
 pub data Found (hash : Hash) (code : Code) (t : Traced) : Verdict → Type 0 where
-  node-break : (a b : ℕ) → NodeBreak hash code t a b → ((a' b' : ℕ) → NodeBreak hash code t a' b' → (a < a') ⊎ ((a ≡ a') × (b ≤ b'))) → Found hash code t (Node (record { first = a; second = b; report = node_report hash code t a b }))
-  chain-break : ((a b : ℕ) → NodeBreak hash code t a b → ⊥) → (k e : ℕ) → ChainBreak hash code t k e → ((k' e' : ℕ) → ChainBreak hash code t k' e' → (k < k') ⊎ ((k ≡ k') × (e' ≤ e))) → Found hash code t (Chain (record { first = k; second = e; report = chain_report hash code t k e }))
+  node_break : (a b : ℕ) → NodeBreak hash code t a b → ((a' b' : ℕ) → NodeBreak hash code t a' b' → (a < a') ⊎ ((a ≡ a') × (b ≤ b'))) → Found hash code t (Node (record { first = a; second = b; report = node_report hash code t a b }))
+  chain_break : ((a b : ℕ) → NodeBreak hash code t a b → ⊥) → (k e : ℕ) → ChainBreak hash code t k e → ((k' e' : ℕ) → ChainBreak hash code t k' e' → (k < k') ⊎ ((k ≡ k') × (e' ≤ e))) → Found hash code t (Chain (record { first = k; second = e; report = chain_report hash code t k e }))
   unrevealed : ((a b : ℕ) → NodeBreak hash code t a b → ⊥) → ((k e : ℕ) → ChainBreak hash code t k e → ⊥) → (k : ℕ) → Hidden code t k → ((k' : ℕ) → Hidden code t k' → k ≤ k') → Found hash code t (Unrevealed (record { first = k; second = code.digit t.stamp k; report = hidden_report hash code t k }))
   ours : ((a b : ℕ) → NodeBreak hash code t a b → ⊥) → ((k e : ℕ) → ChainBreak hash code t k e → ⊥) → ((k : ℕ) → Hidden code t k → ⊥) → Found hash code t Ours
 

@@ -5,7 +5,7 @@ use Rattle.std.proofs.lemmas.Bool.{cond_both, or_parts, eqb-false, ltb-false}
 use Rattle.growth.specs.declared.origin.Origin.{Origin}
 use Rattle.growth.proofs.Trees.{holds-none}
 use Rattle.tree.specs.Meaning.{Hash, Code}
-use Rattle.histories.specs.Histories.{State, growing, serving, retired, IsSigner, in-service, out-of-service, Event, grow, skip, retire, History, Lived, begun, grown, finished, keyed, signed, skipped, retires, traced}
+use Rattle.histories.specs.Histories.{State, growing, serving, retired, IsSigner, in_service, out_of_service, Event, grow, skip, retire, History, Lived, begun, grown, finished, keyed, signed, skipped, retires, traced}
 use Rattle.histories.specs.Rules.{leaf_more, grow_answer, all_spent, no_room, bad_skip, skip_answer}
 use Rattle.histories.specs.States.{Signing}
 use Rattle.histories.proofs.Laws.{Laws}
@@ -54,5 +54,5 @@ module _ (hash : Hash) (code : Code) (laws : Laws hash code) (o : Origin) where
   living (traced w x s stamp bytes report h l) = living-on _ w x s (λ i bytes stamp fresh. fresh) h (living l)
 
   pub sound : {w : History} {x : State} {s : Signing} → Lived hash code o w x → IsSigner x s → Sound hash code o w s
-  sound l (in-service s) = living l
-  sound l (out-of-service s) = living l
+  sound l (in_service s) = living l
+  sound l (out_of_service s) = living l

@@ -4,7 +4,7 @@ use Rattle.std.proofs.Common.{◌≡◌, ℕ, List, [], ◌∷◌, ◌++◌, Ok,
 use Rattle.growth.specs.declared.origin.Origin.{Origin}
 use Rattle.tree.specs.Meaning.{Hash, Code}
 use Rattle.verifier.specs.declared.refusal.Refusal.{Refusal}
-use Rattle.histories.specs.Histories.{State, serving, in-service, Event, sign, History, Lived, grown, finished, keyed, signed, skipped, retires, traced}
+use Rattle.histories.specs.Histories.{State, serving, in_service, Event, sign, History, Lived, grown, finished, keyed, signed, skipped, retires, traced}
 use Rattle.histories.specs.Promise.{Once}
 use Rattle.histories.specs.Rules.{release_size, all_spent, no_room, sign_answer}
 use Rattle.histories.specs.States.{Signing}
@@ -37,6 +37,6 @@ module _ (hash : Hash) (code : Code) (laws : Laws hash code) (o : Origin) where
       let y = part later (sign stamp out (Ok (n, i)) after ∷ earlier) x (subst (λ v. Lived hash code o v x) is l) in
       let at = signed-at y.1 in
       let s = at.0 in
-      let below = ((sound hash code laws o at.1 (in-service s)).issued i bytes stamp' issued).below in
+      let below = ((sound hash code laws o at.1 (in_service s)).issued i bytes stamp' issued).below in
       let next : s.next ≡ i = ap (λ p. p.1) (sign-answered (all_spent s) (no_room code s out) (release_size code s, s.next) (n, i) at.2) in
       omega arith

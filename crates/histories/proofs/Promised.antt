@@ -2,7 +2,7 @@
 -- Assumes nothing.
 use Rattle.std.proofs.Common.{◌≡◌, ℕ, ◌<◌, ◌≤◌, List, get_or, Some, None, Ok, Option, sym, refl, ap, ◌∙◌, subst, ⊎_elim, arith}
 use Rattle.std.proofs.ByRecursion.{All-drop}
-use Rattle.compare.specs.Found.{Found, node-break, chain-break, unrevealed, ours, verdict_numbers, verdict_report}
+use Rattle.compare.specs.Found.{Found, node_break, chain_break, unrevealed, ours, verdict_numbers, verdict_report}
 use Rattle.compare.specs.Search.{found}
 use Rattle.compare.specs.Sides.{Traced, revealed_height}
 use Rattle.compare.specs.declared.verdict.Verdict.{Verdict}
@@ -19,7 +19,7 @@ use Rattle.verifier.specs.Records.{release_bytes, row_of}
 use Rattle.verifier.specs.Rules.{verify_rule}
 use Rattle.verifier.proofs.Facts.{after-at, ok_same}
 use Rattle.histories.specs.Histories.{State, IsSigner, History, Lived, Issued}
-use Rattle.histories.specs.Promise.{Revealed, SaysOurs, Breaks, pair-break, step-break, Promise}
+use Rattle.histories.specs.Promise.{Revealed, SaysOurs, Breaks, pair_break, step_break, Promise}
 use Rattle.histories.specs.Promise as promise
 use Rattle.histories.specs.Rules.{Accepts, own_key, traced_by, report_after, trace_answer, trace_report}
 use Rattle.histories.specs.States.{Signing}
@@ -96,10 +96,10 @@ module _ (hash : Hash) (code : Code) (laws : Laws hash code) (o : Origin) (w : H
 
     -- what is found of any other is a break
     found-breaks : Given hash code s stamp bytes i → (Issued w i bytes stamp → ⊥) → {v : Verdict} → Found hash code t v → Breaks hash code w s stamp bytes i (Ok (verdict_numbers i v)) (verdict_report v)
-    found-breaks g never (node-break a b n least) =
-        pair-break _ _ a b refl (node-report-differs hash code t law tall g.filled row-bytes a b n) (node-report-meets hash code t law tall g.filled row-bytes a b n)
-    found-breaks g never (chain-break nodes k e c least) =
-        step-break _ _ k e refl (chain-report-differs hash code t law tall g.filled row-bytes k e c) (chain-report-meets hash code t law tall g.filled row-bytes k e c)
+    found-breaks g never (node_break a b n least) =
+        pair_break _ _ a b refl (node-report-differs hash code t law tall g.filled row-bytes a b n) (node-report-meets hash code t law tall g.filled row-bytes a b n)
+    found-breaks g never (chain_break nodes k e c least) =
+        step_break _ _ k e refl (chain-report-differs hash code t law tall g.filled row-bytes k e c) (chain-report-meets hash code t law tall g.filled row-bytes k e c)
     found-breaks g never (unrevealed nodes chains k h least) =
         let row = row-true hash code t law tall str g.placed g.filled nodes chains g.leads in
         let shows = (row_shows hash code t law tall row).0 k h.chain in

@@ -16,8 +16,8 @@ pub data State : Type 0 where
 
 -- the state is a signer, in service or retired
 pub data IsSigner : State → Signing → Type 0 where
-  in-service : (s : Signing) → IsSigner (serving s) s
-  out-of-service : (s : Signing) → IsSigner (retired s) s
+  in_service : (s : Signing) → IsSigner (serving s) s
+  out_of_service : (s : Signing) → IsSigner (retired s) s
 
 -- a call: what it was given, what it answered, and what it left in the output or the report
 pub data Event : Type 0 where

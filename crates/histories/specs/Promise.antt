@@ -30,8 +30,8 @@ SaysOurs r = (x : ℕ) × (y : ℕ) × (r ≡ Ok (0, x, y))
 -- one value; or two different strings that step to one; or the signer's own string of a chain of this leaf, at the height of
 -- the stamp's digit, which the record shows and the history did not reveal
 pub data Breaks (hash : Hash) (code : Code) (w : History) (s : Signing) (stamp bytes : List ℕ) (i : ℕ) : Result (ℕ × ℕ × ℕ) Refusal → List ℕ → Type 0 where
-  pair-break : (r : Result (ℕ × ℕ × ℕ) Refusal) (report : List ℕ) (a b : ℕ) → r ≡ Ok (1, a, b) → (take 32 report ≢ drop 32 report) → hash.pair s.origin.hash_key (string_at report 0) (string_at report 1) ≡ hash.pair s.origin.hash_key (string_at report 2) (string_at report 3) → Breaks hash code w s stamp bytes i r report
-  step-break : (r : Result (ℕ × ℕ × ℕ) Refusal) (report : List ℕ) (k e : ℕ) → r ≡ Ok (2, k, e) → (string_at report 0 ≢ string_at report 1) → hash.step s.origin.hash_key (string_at report 0) ≡ hash.step s.origin.hash_key (string_at report 1) → Breaks hash code w s stamp bytes i r report
+  pair_break : (r : Result (ℕ × ℕ × ℕ) Refusal) (report : List ℕ) (a b : ℕ) → r ≡ Ok (1, a, b) → (take 32 report ≢ drop 32 report) → hash.pair s.origin.hash_key (string_at report 0) (string_at report 1) ≡ hash.pair s.origin.hash_key (string_at report 2) (string_at report 3) → Breaks hash code w s stamp bytes i r report
+  step_break : (r : Result (ℕ × ℕ × ℕ) Refusal) (report : List ℕ) (k e : ℕ) → r ≡ Ok (2, k, e) → (string_at report 0 ≢ string_at report 1) → hash.step s.origin.hash_key (string_at report 0) ≡ hash.step s.origin.hash_key (string_at report 1) → Breaks hash code w s stamp bytes i r report
   unrevealed : (r : Result (ℕ × ℕ × ℕ) Refusal) (report : List ℕ) (k e : ℕ) → r ≡ Ok (3, k, e) → k < code.count → e ≡ code.digit stamp k → string_at report 0 ≡ chain_string hash s.origin i k e → string_at (row_of bytes) k ≡ string_at report 0 → (Revealed code w i k e → ⊥) → Breaks hash code w s stamp bytes i r report
 
 -- of a history w that leads to the signer s, which answers r to a stamp and a record and leaves this report

@@ -1,4 +1,4 @@
-// lifecycle: the life of a key, told step by step.
+// key_life: the life of a key, told step by step.
 #![tactic(auto)]
 
 use anyhow::anyhow;

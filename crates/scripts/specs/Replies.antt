@@ -34,7 +34,7 @@ pub data Told : Type 0 where
   gone : Told
   verdict : (numbers : ℕ × ℕ × ℕ) (report : List ℕ) → Told
   refused : Refusal → Told
-  not-now : Told
+  not_now : Told
   no_call : Told
 
 abbrev pub told : Answer → Told
@@ -48,7 +48,7 @@ told (Next leaf) = next leaf
 told Retired = gone
 told (Verdict numbers report) = verdict numbers report
 told (Refused e) = refused e
-told NotNow = not-now
+told NotNow = not_now
 told NotACall = no_call
 
 abbrev pub answered : {A : Type 0} → (A → Told) → Result A Refusal → Told
@@ -90,26 +90,26 @@ module _ (hash : Hash) (code : Code) where
   reply (growing m) grow = answered grown (signer_rules.grow_answer m)
   reply (growing m) nodes = held (held_nodes m)
   reply (growing m) finish = finished
-  reply (growing m) (key room) = not-now
-  reply (growing m) (sign stamp room) = not-now
-  reply (growing m) (skip leaf) = not-now
-  reply (growing m) retire = not-now
-  reply (growing m) (trace stamp bytes) = not-now
-  reply (serving s) grow = not-now
-  reply (serving s) nodes = not-now
-  reply (serving s) finish = not-now
+  reply (growing m) (key room) = not_now
+  reply (growing m) (sign stamp room) = not_now
+  reply (growing m) (skip leaf) = not_now
+  reply (growing m) retire = not_now
+  reply (growing m) (trace stamp bytes) = not_now
+  reply (serving s) grow = not_now
+  reply (serving s) nodes = not_now
+  reply (serving s) finish = not_now
   reply (serving s) (key room) = key_reply s room
   reply (serving s) (sign stamp room) = sign_reply s stamp room
   reply (serving s) (skip leaf) = answered next (signer_rules.skip_answer s leaf)
   reply (serving s) retire = gone
   reply (serving s) (trace stamp bytes) = trace_reply s stamp bytes
-  reply (retired s) grow = not-now
-  reply (retired s) nodes = not-now
-  reply (retired s) finish = not-now
+  reply (retired s) grow = not_now
+  reply (retired s) nodes = not_now
+  reply (retired s) finish = not_now
   reply (retired s) (key room) = key_reply s room
-  reply (retired s) (sign stamp room) = not-now
-  reply (retired s) (skip leaf) = not-now
-  reply (retired s) retire = not-now
+  reply (retired s) (sign stamp room) = not_now
+  reply (retired s) (skip leaf) = not_now
+  reply (retired s) retire = not_now
   reply (retired s) (trace stamp bytes) = trace_reply s stamp bytes
 
   -- the state after it

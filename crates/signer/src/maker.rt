@@ -1,5 +1,5 @@
 // A key that is being grown.
-ghost use Rattle.std.specs.Prelude.{ℕ, ◌^◌, ◌<◌, ◌≤◌, slice_index, slice_index_or};
+ghost use Rattle.std.specs.Prelude.{ℕ, ◌^◌, ◌<◌, ◌≤◌, slice_index};
 
 use growth::Origin;
 use std::marker::PhantomData;
@@ -18,5 +18,5 @@ pub struct Maker<H, C> {
     code: PhantomData<C>,
     ghost tall: { (1 ≤ origin.height) × (origin.height ≤ 8) },
     ghost few: { grown ≤ 2 ^ origin.height },
-    ghost bytes: { (i : ℕ) → (slice_index origin.seed i < 256) × (slice_index_or origin.hash_key i 0 < 256) × (slice_index origin.masks i < 256) },
+    ghost bytes: { (i : ℕ) → (slice_index origin.seed i < 256) × (slice_index origin.hash_key i < 256) × (slice_index origin.masks i < 256) },
 }

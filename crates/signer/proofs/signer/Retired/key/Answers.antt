@@ -1,4 +1,4 @@
-use Rattle.histories.specs.Histories.{retired, out-of-service}
+use Rattle.histories.specs.Histories.{retired, out_of_service}
 use Rattle.signer.specs.Views.{signing_of}
 use Rattle.signer.proofs.signer.Retired.key.Goals as goal
 
@@ -9,5 +9,5 @@ returns g c =
       answer = c.key.ensures.answer;
       output = c.key.ensures.output;
       opens = c.key.ensures.opens;
-      lived = c.key.ensures.lived (retired s) (out-of-service s);
+      lived = c.key.ensures.lived (retired s) (out_of_service s);
     }

@@ -1,4 +1,4 @@
-use Rattle.histories.specs.Histories.{retired, out-of-service}
+use Rattle.histories.specs.Histories.{retired, out_of_service}
 use Rattle.signer.specs.Views.{signing_of}
 use Rattle.signer.proofs.signer.Retired.trace.Goals as goal
 
@@ -10,7 +10,7 @@ returns g c =
       answer = is.answer;
       report = is.report;
       finds = is.finds;
-      lived = is.lived (retired s) (out-of-service s);
+      lived = is.lived (retired s) (out_of_service s);
       promise = is.promise;
       wiped = is.wiped;
     }
