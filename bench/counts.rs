@@ -257,7 +257,7 @@ pub fn compare(height: u8, path: Option<&String>) {
             match hash {
                 // where it hashes no block, as the whole blocks of a message of 36 or 52 bytes, it takes a few instructions
                 1 => calls_in(&path, "sha256::digest::hash_blocks", 500),
-                _ => calls_in(&path, "aes128::tree_hash::Aes128ChainHash::step", 0),
+                _ => calls_in(&path, "aes128::tree_hash::Aes128HashChainHash::step", 0),
             }
         });
         let ours = parts(counts);
