@@ -13,10 +13,8 @@ pub fn encrypt(key: &[u8; 16], block: &[u8; 16]) -> [u8; 16]
     let mut round_key = *key;
     let mut state = mask(block, key);
     for n in 0..9usize {
-        let next = next_round_key(&round_key, n);
-        let after = full_round(&state, &next);
-        round_key = next;
-        state = after;
+        round_key = next_round_key(&round_key, n);
+        state = full_round(&state, &round_key);
     }
     final_round(&state, &next_round_key(&round_key, 9))
 }

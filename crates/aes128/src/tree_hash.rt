@@ -13,17 +13,13 @@ pub struct Aes128Hash;
 impl ChainHash for Aes128Hash {
     const NUMBER: u8 = 2;
 
-    ghost numbered = { 2 };
+    ghost NUMBER = { 2 };
 
     ghost steps = { aes_step };
 
     ghost small = { Prim.search rules };
 
     ghost gives = { step-str };
-
-    fn hash_number() -> u8 {
-        Self::NUMBER
-    }
 
     fn step(key: &[u8; 16], string: &[u8; 16]) -> [u8; 16] {
         mask(&encrypt(key, string), string)
@@ -37,6 +33,6 @@ impl TreeHash for Aes128Hash {
 
     // A step on the left string gives the key for the right one.
     fn pair(key: &[u8; 16], left: &[u8; 16], right: &[u8; 16]) -> [u8; 16] {
-        <Aes128Hash as ChainHash>::step(&<Aes128Hash as ChainHash>::step(key, left), right)
+        Self::step(&Self::step(key, left), right)
     }
 }

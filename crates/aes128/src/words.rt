@@ -1,6 +1,5 @@
 // Words of four bytes: the columns of a state, and the words of the key schedule.
 ghost use Rattle.std.specs.Prelude.{◌≡◌, ◌<◌};
-ghost use Rattle.strings.specs.Strings.{xor};
 ghost use Rattle.aes128.specs.Schedule.{rot_word, sub_word};
 ghost use Rattle.aes128.specs.State.{column};
 ghost use Rattle.aes128.specs.Pieces.{columns};
@@ -27,12 +26,6 @@ pub fn from_columns(a: &[u8; 4], b: &[u8; 4], c: &[u8; 4], d: &[u8; 4]) -> [u8; 
         a[0], a[1], a[2], a[3], b[0], b[1], b[2], b[3], c[0], c[1], c[2], c[3], d[0], d[1], d[2],
         d[3],
     ]
-}
-
-pub fn xor_words(v: &[u8; 4], w: &[u8; 4]) -> [u8; 4]
-    ensures { result ≡ xor v.now w.now }
-{
-    [v[0] ^ w[0], v[1] ^ w[1], v[2] ^ w[2], v[3] ^ w[3]]
 }
 
 pub fn rot_word(w: &[u8; 4]) -> [u8; 4]

@@ -6,53 +6,41 @@ pub trait Code {
     // The code's own number.
     const NUMBER: u8;
 
+    ghost NUMBER: { ℕ };
+
     // How many digits a stamp has.
     const COUNT: usize;
+
+    ghost COUNT: { ℕ };
 
     // The largest digit.
     const TOP: u8;
 
+    ghost TOP: { ℕ };
+
     // The levels of the tree inside a leaf.
     const LEVELS: u8;
 
-    ghost number: { ℕ };
-
-    ghost count: { ℕ };
-
-    ghost top: { ℕ };
-
-    ghost levels: { ℕ };
+    ghost LEVELS: { ℕ };
 
     // The digit of a stamp at a place.
     ghost digits: { List ℕ → ℕ → ℕ };
-
-    fn code_number() -> u8
-        ensures { result ≡ number };
-
-    fn digit_count() -> usize
-        ensures { result ≡ count };
-
-    fn top_digit() -> u8
-        ensures { result ≡ top };
-
-    fn level_count() -> u8
-        ensures { result ≡ levels };
 
     // The stamp's digit at a place, the largest digit past the last.
     fn digit(stamp: &[u8; 16], place: usize) -> u8
         ensures { result ≡ digits stamp.now place };
 
-    ghost count_range: { (1 ≤ count) × (count ≤ 2 ^ levels) };
+    ghost count_range: { (1 ≤ COUNT) × (COUNT ≤ 2 ^ LEVELS) };
 
-    ghost top_range: { (1 ≤ top) × (top ≤ 15) };
+    ghost top_range: { (1 ≤ TOP) × (TOP ≤ 15) };
 
-    ghost level_range: { (1 ≤ levels) × (levels ≤ 8) };
+    ghost level_range: { (1 ≤ LEVELS) × (LEVELS ≤ 8) };
 
-    ghost number_range: { number < 256 };
+    ghost number_range: { NUMBER < 256 };
 
-    ghost within: { (m : List ℕ) (k : ℕ) → Str m → digits m k ≤ top };
+    ghost within: { (m : List ℕ) (k : ℕ) → Str m → digits m k ≤ TOP };
 
-    ghost past: { (m : List ℕ) (k : ℕ) → count ≤ k → digits m k ≡ top };
+    ghost past: { (m : List ℕ) (k : ℕ) → COUNT ≤ k → digits m k ≡ TOP };
 
     // Of two different stamps, each has a digit smaller than the other's at the same place.
     ghost apart: { (m n : List ℕ) → Str m → Str n → (m ≢ n) → (k : ℕ) × (digits m k < digits n k) };

@@ -11,19 +11,19 @@ pub struct LamportDiffie;
 impl Code for LamportDiffie {
     const NUMBER: u8 = 1;
 
+    ghost NUMBER = { 1 };
+
     const COUNT: usize = 256;
+
+    ghost COUNT = { 256 };
 
     const TOP: u8 = 1;
 
+    ghost TOP = { 1 };
+
     const LEVELS: u8 = 8;
 
-    ghost number = { 1 };
-
-    ghost count = { 256 };
-
-    ghost top = { 1 };
-
-    ghost levels = { 8 };
+    ghost LEVELS = { 8 };
 
     ghost digits = { lamport_diffie };
 
@@ -40,22 +40,6 @@ impl Code for LamportDiffie {
     ghost past = { Prim.search rules };
 
     ghost apart = { lamport_diffie-apart };
-
-    fn code_number() -> u8 {
-        Self::NUMBER
-    }
-
-    fn digit_count() -> usize {
-        Self::COUNT
-    }
-
-    fn top_digit() -> u8 {
-        Self::TOP
-    }
-
-    fn level_count() -> u8 {
-        Self::LEVELS
-    }
 
     fn digit(stamp: &[u8; 16], place: usize) -> u8 {
         if place >= Self::COUNT {

@@ -4,8 +4,10 @@
 mod bits;
 mod code;
 mod lamport_diffie;
+mod widths;
 mod winternitz;
 
 pub use code::Code;
 pub use lamport_diffie::LamportDiffie;
-pub use winternitz::{Winternitz2, Winternitz4};
+pub use widths::{DigitWidth, FourBits, TwoBits};
+pub use winternitz::{Winternitz, Winternitz2, Winternitz4};

@@ -1,10 +1,11 @@
-ghost use Rattle.std.specs.Prelude.{◌≡◌, ◌*◌, ◌<◌, refl};
+ghost use Rattle.std.specs.Prelude.{◌≡◌, ◌+◌, ◌-◌, ◌*◌, ◌/◌, ◌^◌, ◌<◌};
 ghost use Rattle.codes.specs.Codes.{Width, checksum, cut, winternitz};
 ghost use Rattle.codes.specs.Laws.{winternitz-within, winternitz-past, winternitz-apart};
-ghost use Rattle.std.proofs.Common.{lit<, rules};
 
 use super::bits::read_bits;
 use super::code::Code;
+use super::widths::{DigitWidth, FourBits, TwoBits};
+use std::marker::PhantomData;
 
 // What the stamp's digits of `width` bits lack to 2 ^ width, in sum.
 fn stamp_checksum(stamp: &[u8; 16], width: usize) -> u16
@@ -35,116 +36,51 @@ fn digit_at(stamp: &[u8; 16], width: usize, ends: usize, place: usize) -> u8
     (stamp_checksum(stamp, width) >> (width * (ends - 1 - end)) & top) as u8
 }
 
-// Winternitz with digits of two bits: 64 of the stamp, 5 of its checksum.
-pub struct Winternitz2;
-
-impl Code for Winternitz2 {
-    const NUMBER: u8 = 2;
-
-    const COUNT: usize = 69;
-
-    const TOP: u8 = 3;
-
-    const LEVELS: u8 = 7;
-
-    ghost number = { 2 };
-
-    ghost count = { 69 };
-
-    ghost top = { 3 };
-
-    ghost levels = { 7 };
-
-    ghost digits = { winternitz 2 5 };
-
-    ghost count_range = { Prim.search rules };
-
-    ghost top_range = { Prim.search rules };
-
-    ghost level_range = { Prim.search rules };
-
-    ghost number_range = { Prim.search rules };
-
-    ghost within = { λ m k s. winternitz-within 2 5 m k };
-
-    ghost past = { λ m k h. winternitz-past 2 5 m k h };
-
-    ghost apart = { winternitz-apart 2 5 (refl, lit< tt) (lit< tt) };
-
-    fn code_number() -> u8 {
-        Self::NUMBER
-    }
-
-    fn digit_count() -> usize {
-        Self::COUNT
-    }
-
-    fn top_digit() -> u8 {
-        Self::TOP
-    }
-
-    fn level_count() -> u8 {
-        Self::LEVELS
-    }
-
-    fn digit(stamp: &[u8; 16], place: usize) -> u8 {
-        digit_at(stamp, 2, 5, place)
-    }
+// Winternitz: the stamp in digits of a width, and then its checksum.
+pub struct Winternitz<W> {
+    width: PhantomData<W>,
 }
 
-// Winternitz with digits of four bits: 32 of the stamp, 3 of its checksum.
-pub struct Winternitz4;
+// 64 digits of the stamp, 5 of its checksum.
+pub type Winternitz2 = Winternitz<TwoBits>;
 
-impl Code for Winternitz4 {
-    const NUMBER: u8 = 3;
+// 32 digits of the stamp, 3 of its checksum.
+pub type Winternitz4 = Winternitz<FourBits>;
 
-    const COUNT: usize = 35;
+impl<W: DigitWidth> Code for Winternitz<W> {
+    const NUMBER: u8 = W::NUMBER;
 
-    const TOP: u8 = 15;
+    ghost NUMBER = { W.NUMBER };
 
-    const LEVELS: u8 = 6;
+    const COUNT: usize = 128 / W::WIDTH + W::ENDS;
 
-    ghost number = { 3 };
+    ghost COUNT = { 128 / W.WIDTH + W.ENDS };
 
-    ghost count = { 35 };
+    const TOP: u8 = (1 << W::WIDTH) - 1;
 
-    ghost top = { 15 };
+    ghost TOP = { 2 ^ W.WIDTH - 1 };
 
-    ghost levels = { 6 };
+    const LEVELS: u8 = W::LEVELS;
 
-    ghost digits = { winternitz 4 3 };
+    ghost LEVELS = { W.LEVELS };
 
-    ghost count_range = { Prim.search rules };
+    ghost digits = { winternitz W.WIDTH W.ENDS };
 
-    ghost top_range = { Prim.search rules };
+    ghost count_range = { W.leaves };
 
-    ghost level_range = { Prim.search rules };
+    ghost top_range = { W.tops };
 
-    ghost number_range = { Prim.search rules };
+    ghost level_range = { W.level_range };
 
-    ghost within = { λ m k s. winternitz-within 4 3 m k };
+    ghost number_range = { W.number_range };
 
-    ghost past = { λ m k h. winternitz-past 4 3 m k h };
+    ghost within = { λ m k s. winternitz-within W.WIDTH W.ENDS m k };
 
-    ghost apart = { winternitz-apart 4 3 (refl, lit< tt) (lit< tt) };
+    ghost past = { λ m k h. winternitz-past W.WIDTH W.ENDS m k h };
 
-    fn code_number() -> u8 {
-        Self::NUMBER
-    }
-
-    fn digit_count() -> usize {
-        Self::COUNT
-    }
-
-    fn top_digit() -> u8 {
-        Self::TOP
-    }
-
-    fn level_count() -> u8 {
-        Self::LEVELS
-    }
+    ghost apart = { winternitz-apart W.WIDTH W.ENDS W.wide W.room };
 
     fn digit(stamp: &[u8; 16], place: usize) -> u8 {
-        digit_at(stamp, 4, 3, place)
+        digit_at(stamp, W::WIDTH, W::ENDS, place)
     }
 }

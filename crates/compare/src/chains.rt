@@ -77,7 +77,7 @@ fn climb_both<H: ChainHash>(
 // The stamp's digit at a place, which never exceeds the top digit.
 fn digit_of<C: Code>(stamp: &[u8; 16], place: usize) -> u8
     ensures value { result ≡ C.Code.digits stamp.now place }
-    ensures within { result ≤ C.Code.top }
+    ensures within { result ≤ C.Code.TOP }
 {
     C::digit(stamp, place)
 }
@@ -88,7 +88,7 @@ fn revealed<C: Code>(entered: &Option<[u8; 16]>, chain: usize) -> u8
 {
     match entered {
         Some(stamp) => C::digit(stamp, chain),
-        None => C::top_digit(),
+        None => C::TOP,
     }
 }
 
@@ -122,10 +122,10 @@ pub(crate) struct Chain {
 
 // Compares a chain of the leaf.
 fn compare_chain<H: TreeHash, C: Code>(subject: &Subject<'_>, chain: u16) -> Chain
-    requires there { chain < C.Code.count }
-    requires shown { 16 * C.Code.count ≤ length subject.now.row.now }
-    ensures ours { result.ours ≡ our_chain (hash_of H.ChainHash H.TreeHash.own) (code_of C.Code) (traced_of subject.now) chain C.Code.top }
-    ensures theirs { result.theirs ≡ their_chain (hash_of H.ChainHash H.TreeHash.own) (code_of C.Code) (traced_of subject.now) chain C.Code.top }
+    requires there { chain < C.Code.COUNT }
+    requires shown { 16 * C.Code.COUNT ≤ length subject.now.row.now }
+    ensures ours { result.ours ≡ our_chain (hash_of H.ChainHash H.TreeHash.own) (code_of C.Code) (traced_of subject.now) chain C.Code.TOP }
+    ensures theirs { result.theirs ≡ their_chain (hash_of H.ChainHash H.TreeHash.own) (code_of C.Code) (traced_of subject.now) chain C.Code.TOP }
     ensures broken { result.broken ≡ height_search (hash_of H.ChainHash H.TreeHash.own) (code_of C.Code) (traced_of subject.now) chain }
     ensures hidden { result.hidden ≡ hidden_find_at (hash_of H.ChainHash H.TreeHash.own) (code_of C.Code) (traced_of subject.now) chain }
 {
@@ -138,7 +138,7 @@ fn compare_chain<H: TreeHash, C: Code>(subject: &Subject<'_>, chain: u16) -> Cha
         &subject.origin.hash_key,
         chain,
         digit,
-        C::top_digit(),
+        C::TOP,
         &ours,
         &theirs,
     );
@@ -163,7 +163,7 @@ pub(crate) fn compare_chains<H: TreeHash, C: Code>(
     ours: &mut [u8; 4096],
     theirs: &mut [u8; 4096],
 ) -> Chains
-    requires { 16 * C.Code.count ≤ length subject.now.row.now }
+    requires { 16 * C.Code.COUNT ≤ length subject.now.row.now }
     ensures ours { (k : ℕ) → k < 256 → string_at ours.new k ≡ leaf_string (hash_of H.ChainHash H.TreeHash.own) (code_of C.Code) (traced_of subject.now).origin subject.now.leaf k }
     ensures theirs { (k : ℕ) → k < 256 → string_at theirs.new k ≡ their_one_time (hash_of H.ChainHash H.TreeHash.own) (code_of C.Code) (traced_of subject.now) k }
     ensures broken { result.broken ≡ chain_search (hash_of H.ChainHash H.TreeHash.own) (code_of C.Code) (traced_of subject.now) }
@@ -173,7 +173,7 @@ pub(crate) fn compare_chains<H: TreeHash, C: Code>(
     *theirs = [0; 4096];
     let mut broken = None;
     let mut hidden = None;
-    for k in 0..C::digit_count() {
+    for k in 0..C::COUNT {
         let chain = compare_chain::<H, C>(subject, k as u16);
         put_string(ours, k, &chain.ours);
         put_string(theirs, k, &chain.theirs);

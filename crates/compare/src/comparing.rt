@@ -36,7 +36,7 @@ fn choose(node: Option<Find>, chain: Option<Find>, hidden: Option<Find>) -> Verd
 pub fn compare<H: TreeHash, C: Code>(subject: &Subject<'_>, work: &mut [u8; 4096]) -> Comparison
     requires tall { subject.now.origin.now.height ≤ 8 }
     requires there { subject.now.leaf < 2 ^ subject.now.origin.now.height }
-    requires row { 16 * (C.Code.count + subject.now.origin.now.height) ≤ length subject.now.row.now }
+    requires row { 16 * (C.Code.COUNT + subject.now.origin.now.height) ≤ length subject.now.row.now }
     ensures root { result.root ≡ rebuilt (hash_of H.ChainHash H.TreeHash.own) (code_of C.Code) subject.now.origin.now.hash_key subject.now.origin.now.masks subject.now.origin.now.height subject.now.leaf subject.now.stamp.now subject.now.row.now }
     ensures verdict { result.verdict ≡ found (hash_of H.ChainHash H.TreeHash.own) (code_of C.Code) (traced_of subject.now) }
     ensures first { Found (hash_of H.ChainHash H.TreeHash.own) (code_of C.Code) (traced_of subject.now) result.verdict }
@@ -47,7 +47,7 @@ pub fn compare<H: TreeHash, C: Code>(subject: &Subject<'_>, work: &mut [u8; 4096
         &subject.origin.hash_key,
         &subject.origin.masks,
         subject.origin.height as usize,
-        C::level_count() as usize,
+        C::LEVELS as usize,
         subject.leaf,
         work,
         &mut theirs,

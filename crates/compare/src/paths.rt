@@ -42,7 +42,7 @@ fn climb_one<H: TreeHash, C: Code>(
 ) -> Sides
     requires tall { subject.now.origin.now.height ≤ 8 }
     requires there { subject.now.leaf < 2 ^ subject.now.origin.now.height }
-    requires row { 16 * (C.Code.count + subject.now.origin.now.height) ≤ length subject.now.row.now }
+    requires row { 16 * (C.Code.COUNT + subject.now.origin.now.height) ≤ length subject.now.row.now }
     requires under { level < subject.now.origin.now.height }
     requires place { position ≡ subject.now.leaf / 2 ^ (subject.now.origin.now.height - (level + 1)) }
     requires ours { ours.now ≡ our_node (hash_of H.ChainHash H.TreeHash.own) (code_of C.Code) (traced_of subject.now) (level + 1) position }
@@ -53,7 +53,7 @@ fn climb_one<H: TreeHash, C: Code>(
 {
     let our_sibling = grow_node::<H, C>(subject.origin, level + 1, sibling(position), work);
     let above = subject.origin.height as usize - level - 1;
-    let their_sibling = string_at(subject.row, C::digit_count() + above);
+    let their_sibling = string_at(subject.row, C::COUNT + above);
     let our_children = children_of(position, ours, &our_sibling);
     let their_children = children_of(position, theirs, &their_sibling);
     join_both::<H>(
@@ -75,7 +75,7 @@ pub(crate) fn climb_to_root<H: TreeHash, C: Code>(
 ) -> Sides
     requires tall { subject.now.origin.now.height ≤ 8 }
     requires there { subject.now.leaf < 2 ^ subject.now.origin.now.height }
-    requires row { 16 * (C.Code.count + subject.now.origin.now.height) ≤ length subject.now.row.now }
+    requires row { 16 * (C.Code.COUNT + subject.now.origin.now.height) ≤ length subject.now.row.now }
     requires ours { leaf_node.now.ours ≡ our_node (hash_of H.ChainHash H.TreeHash.own) (code_of C.Code) (traced_of subject.now) subject.now.origin.now.height subject.now.leaf }
     requires theirs { leaf_node.now.theirs ≡ their_node (hash_of H.ChainHash H.TreeHash.own) (code_of C.Code) (traced_of subject.now) subject.now.origin.now.height subject.now.leaf }
     ensures ours { result.ours ≡ our_node (hash_of H.ChainHash H.TreeHash.own) (code_of C.Code) (traced_of subject.now) 0 0 }

@@ -24,8 +24,8 @@ fn fill_leaf<H: TreeHash, C: Code>(origin: &Origin, leaf: u16, row: &mut [u8; 40
     ensures { (k : ℕ) → k < 256 → string_at row.new k ≡ leaf_string (hash_of H.ChainHash H.TreeHash.own) (code_of C.Code) origin.now leaf k }
 {
     *row = [0; 4096];
-    for k in 0..C::digit_count() {
-        let top = chain_string::<H>(origin, leaf, k, C::top_digit());
+    for k in 0..C::COUNT {
+        let top = chain_string::<H>(origin, leaf, k, C::TOP);
         put_string(row, k, &top);
     }
 }
@@ -44,7 +44,7 @@ pub fn leaf_node<H: TreeHash, C: Code>(
         &origin.hash_key,
         &origin.masks,
         origin.height as usize,
-        C::level_count() as usize,
+        C::LEVELS as usize,
         work,
     )
 }

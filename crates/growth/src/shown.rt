@@ -30,10 +30,10 @@ pub fn shown_string<H: TreeHash, C: Code>(
 ) -> [u8; 16]
     requires tall { origin.now.height ≤ 8 }
     requires there { leaf < 2 ^ origin.now.height }
-    requires within { k < C.Code.count + origin.now.height }
+    requires within { k < C.Code.COUNT + origin.now.height }
     ensures { result ≡ shown_string (hash_of H.ChainHash H.TreeHash.own) (code_of C.Code) origin.now leaf stamp.now k }
 {
-    let count = C::digit_count();
+    let count = C::COUNT;
     if k < count {
         return chain_string::<H>(origin, leaf, k, C::digit(stamp, k));
     }

@@ -13,18 +13,15 @@ pub trait ChainHash {
     // The number by which key records name the hash.
     const NUMBER: u8;
 
-    ghost numbered: { ℕ };
+    ghost NUMBER: { ℕ };
 
     // key and string to string
     ghost steps: { List ℕ → List ℕ → List ℕ };
 
-    fn hash_number() -> u8
-        ensures { result ≡ numbered };
-
     fn step(key: &[u8; 16], string: &[u8; 16]) -> [u8; 16]
         ensures { result ≡ steps key.now string.now };
 
-    ghost small: { numbered < 256 };
+    ghost small: { NUMBER < 256 };
 
     ghost gives: { (k s : List ℕ) → Str k → Str s → Str (steps k s) };
 }

@@ -11,7 +11,7 @@ pub struct Practice;
 impl ChainHash for Practice {
     const NUMBER: u8 = 3;
 
-    ghost numbered = { 3 };
+    ghost NUMBER = { 3 };
 
     ghost steps = { practice_step };
 
@@ -19,15 +19,11 @@ impl ChainHash for Practice {
 
     ghost gives = { step-str };
 
-    fn hash_number() -> u8 {
-        Self::NUMBER
-    }
-
     // Half of each byte, rounded down, under the key.
     fn step(key: &[u8; 16], string: &[u8; 16]) -> [u8; 16] {
-        let mut out = [0; 16];
-        for j in 0..16usize {
-            out[j] = string[j] / 2 ^ key[j];
+        let mut out = *string;
+        for (j, k) in key.iter().enumerate() {
+            out[j] = out[j] / 2 ^ *k;
         }
         out
     }
@@ -40,9 +36,9 @@ impl TreeHash for Practice {
 
     // The sum of both bytes at each place, modulo 256, under the key.
     fn pair(key: &[u8; 16], left: &[u8; 16], right: &[u8; 16]) -> [u8; 16] {
-        let mut out = [0; 16];
-        for j in 0..16usize {
-            out[j] = left[j].wrapping_add(right[j]) ^ key[j];
+        let mut out = *left;
+        for (j, r) in right.iter().enumerate() {
+            out[j] = out[j].wrapping_add(*r) ^ key[j];
         }
         out
     }

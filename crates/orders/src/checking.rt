@@ -72,15 +72,15 @@ fn check_with<H: TreeHash, C: Code>(
     key: &[u8],
     orders: &[u8],
 ) -> Result<Report, AllocError>
-    ensures report { IfOk result (λ report. Checked (hash_of H.ChainHash H.TreeHash.own) (code_of C.Code) (open_rule H.ChainHash.numbered C.Code.number C.Code.levels key.now) orders.now report) }
+    ensures report { IfOk result (λ report. Checked (hash_of H.ChainHash H.TreeHash.own) (code_of C.Code) (open_rule H.ChainHash.NUMBER C.Code.NUMBER C.Code.LEVELS key.now) orders.now report) }
     ensures lacking { OnErr result (0 < length orders.now) }
 {
     match open::<H, C>(key) {
         Ok(opened) => {
             let outcomes = check_orders::<H, C>(heap, &opened, orders)?;
             let summary = KeySummary {
-                hash: H::hash_number(),
-                code: C::code_number(),
+                hash: H::NUMBER,
+                code: C::NUMBER,
                 height: opened.height(),
             };
             Ok(Report {

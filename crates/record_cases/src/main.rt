@@ -82,8 +82,8 @@ fn run_case<H: TreeHash, C: Code>(rt: &HostRuntime, case: &[u8]) -> anyhow::Resu
 }
 
 fn run<H: TreeHash, C: Code>(rt: &HostRuntime) -> anyhow::Result<()> {
-    let hash = H::hash_number();
-    let code = C::code_number();
+    let hash = H::NUMBER;
+    let code = C::NUMBER;
     let path = format!(in rt.alloc(); "records_{hash}_{code}.in")?;
     let case = fs::read(rt, path.as_str())?;
     let height = case.first().copied().unwrap_or(0);

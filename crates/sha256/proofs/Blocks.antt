@@ -1,7 +1,9 @@
 -- Hash values over the blocks of a message, and of a message in two parts.
 -- Assumes nothing.
-use Rattle.std.proofs.Common.{◌≡◌, ℕ, zero, suc, ◌+◌, ◌-◌, ◌*◌, ◌/◌, ◌≤◌, List, ◌++◌, length, take, drop, sym, refl, ap, ◌∙◌, add-zero, add-suc, add-one, arith}
+use Rattle.std.proofs.Common.{◌≡◌, ℕ, zero, suc, ◌+◌, ◌-◌, ◌*◌, ◌/◌, ◌<◌, ◌≤◌, List, [], ◌++◌, length, get_or, take, drop, sym, refl, ap, ◌∙◌, add-zero, add-suc, add-one, arith}
 use Rattle.std.proofs.lemmas.List.{length-append, length-drop, take-append-le, drop-append-le, drop-drop}
+use Rattle.std.specs.Simd.{first_chunks}
+use Rattle.strings.proofs.Laws.{chunk_at}
 use Rattle.sha256.specs.declared.state.State.{State}
 use Rattle.sha256.specs.Compress.{compress}
 use Rattle.sha256.specs.Constants.{initial}
@@ -11,9 +13,14 @@ pub hashed-none : (s : State) (bytes : List ℕ) → hashed 0 s bytes ≡ s
 unfolding hashed
 hashed-none s bytes = refl
 
-pub hashed-more : (n k : ℕ) (start s r : State) (bytes : List ℕ) → s ≡ hashed n start bytes → k ≡ 64 → r ≡ compress s (take k (drop (64 * n) bytes)) → r ≡ hashed (n + 1) start bytes
+hashed-more : (n : ℕ) (start s r : State) (bytes : List ℕ) → s ≡ hashed n start bytes → r ≡ compress s (block_at bytes n) → r ≡ hashed (n + 1) start bytes
 unfolding hashed
-hashed-more n k start s r bytes before wide is = rw (add-one n) (is ∙ (λ i. compress (before i) (take (wide i) (drop (64 * n) bytes))))
+hashed-more n start s r bytes before is = rw (add-one n) (is ∙ ap (λ t. compress t (block_at bytes n)) before)
+
+-- the same, with the block as a chunk of the bytes
+pub hashed-chunk : (n k : ℕ) (start s r : State) (bytes : List ℕ) (chunks : List (List ℕ)) → s ≡ hashed n start bytes → n < k → chunks ≡ first_chunks 64 k bytes → r ≡ compress s (get_or chunks n []) → r ≡ hashed (n + 1) start bytes
+hashed-chunk n k start s r bytes chunks before h is e =
+    hashed-more n start s r bytes before (e ∙ ap (compress s) (ap (λ l. get_or l n []) is ∙ chunk_at 64 k n bytes h))
 
 piece-front : (w at : ℕ) (xs ys : List ℕ) → at + w ≤ length xs → take w (drop at (xs ++ ys)) ≡ take w (drop at xs)
 piece-front w at xs ys h =

@@ -1,12 +1,26 @@
 -- The message schedule, word by word.
 -- Assumes nothing.
-use Rattle.std.proofs.Common.{◌≡◌, ℕ, ◌+◌, ◌-◌, ◌<◌, ◌≤◌, List, [], ◌∷◌, ◌++◌, map, length, get_or, take, set, sym, refl, ap, ◌∙◌, add-one, arith}
+use Rattle.std.proofs.Common.{◌≡◌, ℕ, ◌+◌, ◌-◌, ◌*◌, ◌^◌, ◌<◌, ◌≤◌, List, [], ◌∷◌, ◌++◌, map, length, get_or, take, drop, set, sym, refl, ap, ◌∙◌, add-one, arith}
 use Rattle.std.specs.List.{range_with_len}
 use Rattle.std.proofs.lemmas.List.FromFn.{fill_by_all}
 use Rattle.std.proofs.lemmas.List.Edits.{fill_by_more}
-use Rattle.std.proofs.lemmas.List.{length-take-le, get_or-take, take_more_set}
-use Rattle.sha256.specs.Compress.{next_word, longer, extended}
+use Rattle.std.proofs.lemmas.List.{length-take-le, get_or-take, get_or-drop, take_more_set}
+use Rattle.std.specs.Simd.{first_chunks}
+use Rattle.strings.proofs.Laws.{chunk_at}
+use Rattle.sha256.specs.Compress.{word_at, next_word, longer, extended}
 use Rattle.sha256.specs.Functions.{◌⊞◌, small_sigma0, small_sigma1}
+
+-- a word is made of the four bytes of its chunk
+pub word-chunk : (block : List ℕ) (t k : ℕ) (chunks : List (List ℕ)) → t < k → chunks ≡ first_chunks 4 k block → (let w = get_or chunks t [] in get_or w 0 0 * 2 ^ 24 + get_or w 1 0 * 2 ^ 16 + get_or w 2 0 * 2 ^ 8 + get_or w 3 0) ≡ word_at block t
+word-chunk block t k chunks h is =
+    let w = get_or chunks t [] in
+    let chunk : w ≡ take 4 (drop (4 * t) block) = ap (λ l. get_or l t []) is ∙ chunk_at 4 k t block h in
+    let at : (j m : ℕ) → j < 4 → 4 * t + j ≡ m → get_or w j 0 ≡ get_or block m 0 = λ j m l e. ap (λ x. get_or x j 0) chunk ∙ get_or-take 4 (drop (4 * t) block) j 0 l ∙ get_or-drop (4 * t) block j 0 ∙ ap (λ n. get_or block n 0) e in
+    let b0 = at 0 (4 * t) (omega arith) (omega arith) in
+    let b1 = at 1 (4 * t + 1) (omega arith) (omega arith) in
+    let b2 = at 2 (4 * t + 2) (omega arith) (omega arith) in
+    let b3 = at 3 (4 * t + 3) (omega arith) (omega arith) in
+    λ i. b0 i * 2 ^ 24 + b1 i * 2 ^ 16 + b2 i * 2 ^ 8 + b3 i
 
 -- a row that is filled by f below i, and at i
 pub filled_more : (f : ℕ → ℕ) (xs : List ℕ) (i x : ℕ) → i < length xs → x ≡ f i → ((k : ℕ) → k < i → get_or xs k 0 ≡ f k) → (k : ℕ) → k < i + 1 → get_or (set xs i x) k 0 ≡ f k

@@ -13,9 +13,10 @@ const BLOCK: usize = 64;
 fn hash_blocks(start: State, bytes: &[u8]) -> State
     ensures { result ≡ spec.hashed (length bytes.now / 64) start bytes.now }
 {
+    let (blocks, _) = bytes.as_chunks::<64>();
     let mut s = start;
-    for i in 0..bytes.len() / BLOCK {
-        s = compress(s, &bytes[BLOCK * i..BLOCK * i + BLOCK]);
+    for block in blocks {
+        s = compress(s, block);
     }
     s
 }
@@ -47,8 +48,8 @@ fn state_bytes(s: &State) -> [u8; 32]
 {
     let words = [s.a, s.b, s.c, s.d, s.e, s.f, s.g, s.h];
     let mut bytes = [0; 32];
-    for i in 0..8usize {
-        put(&mut bytes, 4 * i, &words[i].to_be_bytes());
+    for (i, word) in words.iter().enumerate() {
+        put(&mut bytes, 4 * i, &word.to_be_bytes());
     }
     bytes
 }

@@ -28,17 +28,13 @@ pub struct Sha256Hash;
 impl ChainHash for Sha256Hash {
     const NUMBER: u8 = 1;
 
-    ghost numbered = { 1 };
+    ghost NUMBER = { 1 };
 
     ghost steps = { sha_step };
 
     ghost small = { Prim.search rules };
 
     ghost gives = { λ k s a b. cut-str _ };
-
-    fn hash_number() -> u8 {
-        Self::NUMBER
-    }
 
     // 36 bytes, which fill one block with the padding.
     fn step(key: &[u8; 16], string: &[u8; 16]) -> [u8; 16] {

@@ -43,11 +43,11 @@ fn write_shown<H: TreeHash, C: Code>(
 )
     requires tall { origin.now.height ≤ 8 }
     requires there { leaf < 2 ^ origin.now.height }
-    requires room { release_length C.Code.count origin.now.height ≤ length out.old }
-    ensures after { out.new ≡ (take 8 out.old ++ shown_row (hash_of H.ChainHash H.TreeHash.own) (code_of C.Code) origin.now leaf stamp.now) ++ drop (release_length C.Code.count origin.now.height) out.old }
-    ensures long { length (shown_row (hash_of H.ChainHash H.TreeHash.own) (code_of C.Code) origin.now leaf stamp.now) ≡ 16 * (C.Code.count + origin.now.height) }
+    requires room { release_length C.Code.COUNT origin.now.height ≤ length out.old }
+    ensures after { out.new ≡ (take 8 out.old ++ shown_row (hash_of H.ChainHash H.TreeHash.own) (code_of C.Code) origin.now leaf stamp.now) ++ drop (release_length C.Code.COUNT origin.now.height) out.old }
+    ensures long { length (shown_row (hash_of H.ChainHash H.TreeHash.own) (code_of C.Code) origin.now leaf stamp.now) ≡ 16 * (C.Code.COUNT + origin.now.height) }
 {
-    for k in 0..C::digit_count() + origin.height as usize {
+    for k in 0..C::COUNT + origin.height as usize {
         let string = shown_string::<H, C>(origin, leaf, stamp, k, work);
         put(out, 8 + 16 * k, &string);
     }
@@ -63,10 +63,10 @@ pub(crate) fn write_release<H: TreeHash, C: Code>(
 )
     requires tall { origin.now.height ≤ 8 }
     requires there { leaf < 2 ^ origin.now.height }
-    requires room { release_length C.Code.count origin.now.height ≤ length out.old }
-    ensures { out.new ≡ release_bytes leaf (shown_row (hash_of H.ChainHash H.TreeHash.own) (code_of C.Code) origin.now leaf stamp.now) ++ drop (release_length C.Code.count origin.now.height) out.old }
+    requires room { release_length C.Code.COUNT origin.now.height ≤ length out.old }
+    ensures { out.new ≡ release_bytes leaf (shown_row (hash_of H.ChainHash H.TreeHash.own) (code_of C.Code) origin.now leaf stamp.now) ++ drop (release_length C.Code.COUNT origin.now.height) out.old }
 {
-    let size = 8 + 16 * (C::digit_count() + origin.height as usize);
+    let size = 8 + 16 * (C::COUNT + origin.height as usize);
     put(out, 0, &(size as u32).to_le_bytes());
     put(out, 4, &RELEASE.to_le_bytes());
     put(out, 6, &leaf.to_le_bytes());

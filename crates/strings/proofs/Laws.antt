@@ -1,14 +1,16 @@
 -- The laws of strings, and of rows of strings in a buffer.
 -- Assumes nothing.
-use Rattle.std.proofs.Common.{◌≡◌, ℕ, zero, suc, ◌+◌, ◌-◌, ◌*◌, ◌/◌, ◌%◌, ◌^◌, ◌<◌, ◌≤◌, ◌≢◌, List, [], ◌∷◌, ◌++◌, map, length, get_or, take, drop, replicate, sym, refl, ap, ◌∙◌, ⊎_elim, le_of_suc-le-suc, mod-lt, mod-eq_of_lt, zero-add, add-one, arith}
+use Rattle.std.proofs.Common.{◌≡◌, ℕ, zero, suc, ◌+◌, ◌-◌, ◌*◌, ◌/◌, ◌%◌, ◌^◌, ◌<◌, ◌≤◌, ◌≢◌, List, [], ◌∷◌, ◌++◌, map, length, get_or, set, take, drop, replicate, sym, refl, ap, ◌∙◌, ⊎_elim, le_of_suc-le-suc, mod-lt, mod-eq_of_lt, zero-add, add-one, mul-zero, mul-suc, arith}
 use native.Mathlib.Nat.{mod-one, pow-succ', one-le-pow}
 use lib.Bits.{bit_xor, xor_assoc, xor_self, xor_zero_r, xor_lt}
 use lib.Arith.{mod-mul}
 use Rattle.std.specs.List.{range_with_len}
-use Rattle.std.proofs.lemmas.List.{take-append-drop, length-append, length-take, length-drop, length-take-le, take_at, drop_at, take-take, take-append-le, drop-append-le, drop-drop, drop-take, append_assoc, same_from_push, drop-replicate, take-replicate}
+use Rattle.std.specs.Simd.{first_chunks}
+use Rattle.std.proofs.lemmas.List.Edits.{fill_by_more}
+use Rattle.std.proofs.lemmas.List.{length-set, get_or-set_other, take-append-drop, length-append, length-take, length-drop, length-take-le, take_at, drop_at, take-take, take-append-le, drop-append-le, drop-drop, drop-take, append_assoc, same_from_push, drop-replicate, take-replicate}
 use Rattle.std.proofs.lemmas.Bool.{cases_lt}
 use Rattle.std.proofs.ByRecursion.{All-take, All-drop, All-from_get_or}
-use Rattle.std.proofs.lemmas.List.FromFn.{length-map-range_with_len, map-range_with_len_more}
+use Rattle.std.proofs.lemmas.List.FromFn.{length-map-range_with_len, map-range_with_len_more, fill_by_all}
 use Rattle.strings.specs.Strings.{Bytes, Str, zero_string, xor, little_endian, numeral, string_at, put_string}
 
 pub length-xor : (s m : List ℕ) → length (xor s m) ≡ length s
@@ -131,6 +133,30 @@ little_endian-injective (suc k) m n e =
 pub numeral-injective : (m n : ℕ) → m < 2 ^ 128 → n < 2 ^ 128 → numeral m ≡ numeral n → m ≡ n
 unfolding numeral
 numeral-injective m n hm hn e = sym (mod-eq_of_lt hm) ∙ little_endian-injective 16 m n e ∙ mod-eq_of_lt hn
+
+-- chunk number i of a list that is cut into k chunks of w
+pub chunk_at : (w k i : ℕ) (xs : List ℕ) → i < k → get_or (first_chunks w k xs) i [] ≡ take w (drop (w * i) xs)
+chunk_at w zero i xs h = absurd (omega arith)
+chunk_at w (suc k) zero xs h = ap (λ n. take w (drop n xs)) (sym (mul-zero w))
+chunk_at w (suc k) (suc i) xs h =
+    chunk_at w k i (drop w xs) (le_of_suc-le-suc h) ∙ ap (take w) (drop-drop (w * i) w xs ∙ ap (λ n. drop n xs) (omega (arith, mul-suc w i)))
+
+-- a list that is edited place by place: f says what is new, and from place j on it is as it was
+abbrev pub Edited : (ℕ → ℕ) → List ℕ → List ℕ → ℕ → Type 0
+Edited f old new j = (length new ≡ length old) × ((k : ℕ) → k < j → get_or new k 0 ≡ f k) × ((k : ℕ) → j ≤ k → get_or new k 0 ≡ get_or old k 0)
+
+pub edited-none : (f : ℕ → ℕ) (old : List ℕ) → Edited f old old 0
+edited-none f old = (refl, λ k h. absurd (omega arith), λ k h. refl)
+
+pub edited-more : (f : ℕ → ℕ) (old new : List ℕ) (j v : ℕ) → j < length old → v ≡ f j → Edited f old new j → Edited f old (set new j v) (j + 1)
+edited-more f old new j v h e s = (
+  length-set new j v ∙ s.0,
+  λ k g. ap (λ y. get_or (set new j y) k 0) e ∙ fill_by_more f new j 0 (omega arith) s.1 k g,
+  λ k g. get_or-set_other new j k v 0 (λ q. absurd (omega arith)) ∙ s.2 k (omega arith),
+)
+
+pub edited-all : (f : ℕ → ℕ) (old new : List ℕ) (n j : ℕ) → length old ≡ n → n ≤ j → Edited f old new j → new ≡ map f (range_with_len 0 n)
+edited-all f old new n j e h s = fill_by_all f new n 0 (s.0 ∙ e) (λ k g. s.1 k (omega arith))
 
 -- an array of 16 bytes is a string
 pub str-from : (s : List ℕ) → length s ≡ 16 → ((i : ℕ) → get_or s i 0 < 256) → Str s

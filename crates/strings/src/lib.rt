@@ -9,13 +9,13 @@ ghost use Rattle.strings.specs.Strings.{xor, numeral, string_at, put_string};
 pub const ZERO: [u8; 16] = [0; 16];
 
 // Exclusive or, byte by byte.
-pub fn mask(string: &[u8; 16], by: &[u8; 16]) -> [u8; 16]
+pub fn mask<const N: usize>(string: &[u8; N], by: &[u8; N]) -> [u8; N]
     ensures value { result ≡ xor string.now by.now }
     ensures back { xor result by.now ≡ string.now }
 {
-    let mut out = [0; 16];
-    for j in 0..16usize {
-        out[j] = string[j] ^ by[j];
+    let mut out = *string;
+    for (j, b) in by.iter().enumerate() {
+        out[j] ^= *b;
     }
     out
 }

@@ -24,7 +24,7 @@ pub record Code : Type 0 where
   pub digit : List ℕ → ℕ → ℕ
 
 abbrev pub hash_of : {S : Type 0} → chain_hash.Ghosts S → tree_hash.Ghosts S → Hash
-hash_of chain tree = record { number = chain.numbered; step = chain.steps; pair = tree.pairs }
+hash_of chain tree = record { number = chain.NUMBER; step = chain.steps; pair = tree.pairs }
 
 abbrev pub code_of : {S : Type 0} → code_trait.Ghosts S → Code
-code_of code = record { number = code.number; count = code.count; top = code.top; levels = code.levels; digit = code.digits }
+code_of code = record { number = code.NUMBER; count = code.COUNT; top = code.TOP; levels = code.LEVELS; digit = code.digits }

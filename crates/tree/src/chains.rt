@@ -26,9 +26,9 @@ pub fn climb_to_top<H: ChainHash, C: Code>(
     place: usize,
     string: &[u8; 16],
 ) -> [u8; 16]
-    ensures { result ≡ raise (H.ChainHash.steps key.now) (C.Code.top - C.Code.digits stamp.now place) string.now }
+    ensures { result ≡ raise (H.ChainHash.steps key.now) (C.Code.TOP - C.Code.digits stamp.now place) string.now }
 {
-    climb_chain::<H>(key, string, C::top_digit() - C::digit(stamp, place))
+    climb_chain::<H>(key, string, C::TOP - C::digit(stamp, place))
 }
 
 // The one-time strings of a leaf, from the strings of its chains at the heights of the stamp's digits.
@@ -37,11 +37,11 @@ pub fn one_time_strings<H: ChainHash, C: Code>(
     stamp: &[u8; 16],
     shown: &[u8],
 ) -> [u8; 4096]
-    requires { 16 * C.Code.count ≤ length shown.now }
-    ensures { (k : ℕ) → k < 256 → string_at result k ≡ one_time (H.ChainHash.steps key.now) C.Code.count C.Code.top (C.Code.digits stamp.now) (string_at shown.now) k }
+    requires { 16 * C.Code.COUNT ≤ length shown.now }
+    ensures { (k : ℕ) → k < 256 → string_at result k ≡ one_time (H.ChainHash.steps key.now) C.Code.COUNT C.Code.TOP (C.Code.digits stamp.now) (string_at shown.now) k }
 {
     let mut row = [0; 4096];
-    for k in 0..C::digit_count() {
+    for k in 0..C::COUNT {
         let top = climb_to_top::<H, C>(key, stamp, k, &string_at(shown, k));
         put_string(&mut row, k, &top);
     }

@@ -19,11 +19,11 @@ pub fn rebuild_root<H: TreeHash, C: Code>(
     stamp: &[u8; 16],
     row: &[u8],
 ) -> [u8; 16]
-    requires masked { 32 * (height + C.Code.levels) ≤ length masks.now }
-    requires within { 16 * (C.Code.count + height) ≤ length row.now }
+    requires masked { 32 * (height + C.Code.LEVELS) ≤ length masks.now }
+    requires within { 16 * (C.Code.COUNT + height) ≤ length row.now }
     ensures { result ≡ rebuilt (hash_of H.ChainHash H.TreeHash.own) (code_of C.Code) key.now masks.now height leaf stamp.now row.now }
 {
     let mut strings = one_time_strings::<H, C>(key, stamp, row);
-    let start = fold::<H>(key, masks, height, C::level_count() as usize, &mut strings);
-    climb_path::<H>(key, masks, height, leaf, &start, row, C::digit_count())
+    let start = fold::<H>(key, masks, height, C::LEVELS as usize, &mut strings);
+    climb_path::<H>(key, masks, height, leaf, &start, row, C::COUNT)
 }

@@ -11,18 +11,18 @@ use hashes::ChainHash;
 
 // Reads a key record as it lies in `bytes`, for a verifier with hash `H` and code `C`.
 pub fn open<H: ChainHash, C: Code>(bytes: &[u8]) -> Result<OpenedKey<'_>, Refusal>
-    ensures answer { seen key_of result ≡ open_rule H.ChainHash.numbered C.Code.number C.Code.levels bytes.now }
-    ensures reads { ReadsKeys H.ChainHash.numbered C.Code.number C.Code.levels bytes.now (seen key_of result) }
+    ensures answer { seen key_of result ≡ open_rule H.ChainHash.NUMBER C.Code.NUMBER C.Code.LEVELS bytes.now }
+    ensures reads { ReadsKeys H.ChainHash.NUMBER C.Code.NUMBER C.Code.LEVELS bytes.now (seen key_of result) }
 {
     let body = body_of(bytes, KEY)?;
-    if body[0] != H::hash_number() || body[1] != C::code_number() {
+    if body[0] != H::NUMBER || body[1] != C::NUMBER {
         return Err(Refusal::Parameters);
     }
     let height = body[2];
     if height < 1 || height > 8 || body[3] != 0 {
         return Err(Refusal::Height);
     }
-    if bytes.len() != 42 + 32 * (height as usize + C::level_count() as usize) {
+    if bytes.len() != 42 + 32 * (height as usize + C::LEVELS as usize) {
         return Err(Refusal::Layout);
     }
     Ok(OpenedKey { bytes, height })
@@ -30,8 +30,8 @@ pub fn open<H: ChainHash, C: Code>(bytes: &[u8]) -> Result<OpenedKey<'_>, Refusa
 
 // Whether a verifier with hash `H` and code `C` opens this key too: whether it was opened with the same numbers and levels.
 pub fn suits<H: ChainHash, C: Code>(key: &OpenedKey<'_>) -> bool
-    ensures answer { result ≡ suited H.ChainHash.numbered C.Code.number C.Code.levels (key_of key.now) }
-    ensures opened { (hash code levels : ℕ) → open_rule hash code levels (key_of key.now).bytes ≡ Ok (key_of key.now) → Decides result ((hash ≡ H.ChainHash.numbered) × (code ≡ C.Code.number) × (levels ≡ C.Code.levels)) }
+    ensures answer { result ≡ suited H.ChainHash.NUMBER C.Code.NUMBER C.Code.LEVELS (key_of key.now) }
+    ensures opened { (hash code levels : ℕ) → open_rule hash code levels (key_of key.now).bytes ≡ Ok (key_of key.now) → Decides result ((hash ≡ H.ChainHash.NUMBER) × (code ≡ C.Code.NUMBER) × (levels ≡ C.Code.LEVELS)) }
 {
     match open::<H, C>(key.bytes) {
         Ok(same) => same.height == key.height,

@@ -24,9 +24,9 @@ fn parts_of<'a, C: Code>(height: u8, bytes: &[u8], body: &'a [u8]) -> Result<Rel
     requires tall { height ≤ 8 }
     requires long { 10 ≤ length bytes.now }
     requires rest { body.now ≡ drop 6 bytes.now }
-    ensures { seen shown_by result ≡ parts_rule C.Code.count height bytes.now }
+    ensures { seen shown_by result ≡ parts_rule C.Code.COUNT height bytes.now }
 {
-    if bytes.len() != 8 + 16 * (C::digit_count() + height as usize) {
+    if bytes.len() != 8 + 16 * (C::COUNT + height as usize) {
         return Err(Refusal::Layout);
     }
     let leaf = u16::from_le_bytes([body[0], body[1]]);
@@ -44,8 +44,8 @@ pub fn read_release<'a, H: ChainHash, C: Code>(
     key: &OpenedKey<'_>,
     bytes: &'a [u8],
 ) -> Result<Release<'a>, Refusal>
-    ensures answer { seen shown_by result ≡ read_rule H.ChainHash.numbered (code_of C.Code) (key_of key.now) bytes.now }
-    ensures reads { suited H.ChainHash.numbered C.Code.number C.Code.levels (key_of key.now) ≡ true → ReadsReleases C.Code.count key.now.height bytes.now (seen shown_by result) }
+    ensures answer { seen shown_by result ≡ read_rule H.ChainHash.NUMBER (code_of C.Code) (key_of key.now) bytes.now }
+    ensures reads { suited H.ChainHash.NUMBER C.Code.NUMBER C.Code.LEVELS (key_of key.now) ≡ true → ReadsReleases C.Code.COUNT key.now.height bytes.now (seen shown_by result) }
 {
     let body = body_of(bytes, RELEASE)?;
     if !suits::<H, C>(key) {
@@ -57,7 +57,7 @@ pub fn read_release<'a, H: ChainHash, C: Code>(
 // Reads a release record as it lies in `bytes`, for its own signer, whose key has this height.
 pub fn read_own<C: Code>(height: u8, bytes: &[u8]) -> Result<Release<'_>, Refusal>
     requires { height ≤ 8 }
-    ensures { seen shown_by result ≡ own_rule C.Code.count height bytes.now }
+    ensures { seen shown_by result ≡ own_rule C.Code.COUNT height bytes.now }
 {
     let body = body_of(bytes, RELEASE)?;
     parts_of::<C>(height, bytes, body)

@@ -18,14 +18,14 @@ impl<H: TreeHash, C: Code> Signer<H, C> {
     pub fn key(&self, out: &mut [u8]) -> Result<usize, Refusal>
         ensures answer { result ≡ key_answer (code_of C.Code) (signing_of self.now) out.old }
         ensures output { out.new ≡ key_output (hash_of H.ChainHash H.TreeHash.own) (code_of C.Code) (signing_of self.now) out.old }
-        ensures opens { open_rule H.ChainHash.numbered C.Code.number C.Code.levels (key_record (hash_of H.ChainHash H.TreeHash.own) (code_of C.Code) (signing_of self.now)) ≡ Ok (record { bytes = key_record (hash_of H.ChainHash H.TreeHash.own) (code_of C.Code) (signing_of self.now); height = self.now.origin.height }) }
+        ensures opens { open_rule H.ChainHash.NUMBER C.Code.NUMBER C.Code.LEVELS (key_record (hash_of H.ChainHash H.TreeHash.own) (code_of C.Code) (signing_of self.now)) ≡ Ok (record { bytes = key_record (hash_of H.ChainHash H.TreeHash.own) (code_of C.Code) (signing_of self.now); height = self.now.origin.height }) }
         ensures lived { (x : State) → IsSigner x (signing_of self.now) → Continues (hash_of H.ChainHash H.TreeHash.own) (code_of C.Code) x (key out.old result out.new) x }
     {
-        let size = 42 + 32 * (self.origin.height as usize + C::level_count() as usize);
+        let size = 42 + 32 * (self.origin.height as usize + C::LEVELS as usize);
         if out.len() < size {
             return Err(Refusal::Output);
         }
-        let names = [H::hash_number(), C::code_number(), self.origin.height, 0];
+        let names = [H::NUMBER, C::NUMBER, self.origin.height, 0];
         write_key(
             out,
             &names,
@@ -57,7 +57,7 @@ impl<H: TreeHash, C: Code> Signer<H, C> {
         if leaf == 1 << self.origin.height {
             return Err(Refusal::Spent);
         }
-        let size = 8 + 16 * (C::digit_count() + self.origin.height as usize);
+        let size = 8 + 16 * (C::COUNT + self.origin.height as usize);
         if out.len() < size {
             return Err(Refusal::Output);
         }
@@ -95,7 +95,7 @@ impl<H: TreeHash, C: Code> Retired<H, C> {
     pub fn key(&self, out: &mut [u8]) -> Result<usize, Refusal>
         ensures answer { result ≡ key_answer (code_of C.Code) (signing_of self.now.signer) out.old }
         ensures output { out.new ≡ key_output (hash_of H.ChainHash H.TreeHash.own) (code_of C.Code) (signing_of self.now.signer) out.old }
-        ensures opens { open_rule H.ChainHash.numbered C.Code.number C.Code.levels (key_record (hash_of H.ChainHash H.TreeHash.own) (code_of C.Code) (signing_of self.now.signer)) ≡ Ok (record { bytes = key_record (hash_of H.ChainHash H.TreeHash.own) (code_of C.Code) (signing_of self.now.signer); height = self.now.signer.origin.height }) }
+        ensures opens { open_rule H.ChainHash.NUMBER C.Code.NUMBER C.Code.LEVELS (key_record (hash_of H.ChainHash H.TreeHash.own) (code_of C.Code) (signing_of self.now.signer)) ≡ Ok (record { bytes = key_record (hash_of H.ChainHash H.TreeHash.own) (code_of C.Code) (signing_of self.now.signer); height = self.now.signer.origin.height }) }
         ensures lived { Continues (hash_of H.ChainHash H.TreeHash.own) (code_of C.Code) (retired (signing_of self.now.signer)) (key out.old result out.new) (retired (signing_of self.now.signer)) }
     {
         self.signer.key(out)

@@ -18,8 +18,8 @@ loop-n-preserved c =
     let key = c.args.key.now in
     let block = c.args.block.now in
     let n = c.loop-n.n in
-    let next = next-key_of_round key c.loop-n.round_key c.next_round_key-next.result n c.loop-n.invariant.0 c.next_round_key-next.ensures in
-    (next, c.full_round-after.ensures ∙ (λ t. full_round (c.loop-n.invariant.1 t) (next t)) ∙ sym (rounds-more key block n))
+    let next = next-key_of_round key c.loop-n.round_key c.next_round_key-round_key.result n c.loop-n.invariant.0 c.next_round_key-round_key.ensures in
+    (next, c.full_round-state.ensures ∙ (λ t. full_round (c.loop-n.invariant.1 t) (next t)) ∙ sym (rounds-more key block n))
 
 pub returns : goal.returns
 unfolding aes128_of

@@ -10,7 +10,7 @@ use Rattle.compare.proofs.Firsts.{last-same}
 use Rattle.compare.proofs.chains.compare_chain.Goals as goal
 
 pub climb_both-find-requires : goal.climb_both-find-requires
-climb_both-find-requires g c = omega (arith, c.digit_of-digit.ensures.within, c.top_digit.ensures)
+climb_both-find-requires g c = omega (arith, c.digit_of-digit.ensures.within, c.TOP.ensures)
 
 pub returns : goal.returns
 returns g c =
@@ -21,7 +21,7 @@ returns g c =
     let k = c.args.chain in
     let d = code.digit t.stamp k in
     let is : c.digit_of-digit.result ≡ d = c.digit_of-digit.ensures.value in
-    let top : c.top_digit.result ≡ code.top = c.top_digit.ensures in
+    let top : c.TOP.result ≡ code.top = c.TOP.ensures in
     let low = c.digit_of-digit.ensures.within in
     let ours : c.chain_string-ours.result ≡ our_chain hash code t k d = c.chain_string-ours.ensures ∙ ap (our_chain hash code t k) is in
     let rises : (e : ℕ) → raise step e (our_chain hash code t k d) ≡ our_chain hash code t k (e + d) = λ e. raise-add step e d (secret hash t.origin t.leaf k) in

@@ -58,7 +58,7 @@ returns g c =
     let code = code_of g.C.Code in
     let t = traced_of c.args.subject.now in
     let step = hash.step t.origin.hash_key in
-    let all : c.loop-k.k ≡ code.count = omega (arith, c.loop-k-test.false, c.loop-k.auto.k-end, c.digit_count-k-end.ensures) in
+    let all : c.loop-k.k ≡ code.count = omega (arith, c.loop-k-test.false, c.loop-k.auto.k-end, c.COUNT-k-end.ensures) in
     let inv = c.loop-k.invariant in
     record {
       ours = λ k h. inv.2 k h ∙ ap (λ n. one_time step n code.top (λ j. 0) (secret hash t.origin t.leaf) k) all;

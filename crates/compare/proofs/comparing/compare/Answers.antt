@@ -15,12 +15,12 @@ use Rattle.compare.proofs.comparing.compare.Given as given
 use Rattle.compare.proofs.comparing.compare.Goals as goal
 
 -- a leaf has at most 256 strings
-room : (g : given.Over) → 2 ^ g.C.Code.levels ≤ 256
-room g = pow_mono {i = g.C.Code.levels} {j = 8} g.met.C.Code.level_range.1
+room : (g : given.Over) → 2 ^ g.C.Code.LEVELS ≤ 256
+room g = pow_mono {i = g.C.Code.LEVELS} {j = 8} g.met.C.Code.level_range.1
 
 pub fold_both-leaf_node-requires : goal.fold_both-leaf_node-requires
 fold_both-leaf_node-requires g c =
-    let is = c.level_count.ensures in
+    let is = c.LEVELS.ensures in
     let few = g.met.C.Code.level_range in
     let size = ap (λ n. 2 ^ n) is in
     let most = room g in
@@ -45,7 +45,7 @@ climb_to_root-root-requires g c =
     let our-row = λ (k : ℕ) (lt : k < 2 ^ code.levels). c.compare_chains-chains.ensures.ours k (omega arith) in
     let their-row = λ (k : ℕ) (lt : k < 2 ^ code.levels). c.compare_chains-chains.ensures.theirs k (omega arith) in
     let top : h ≡ h + 0 = omega arith in
-    let deep : c.level_count.result ≡ code.levels - 0 = c.level_count.ensures ∙ omega arith in
+    let deep : c.LEVELS.result ≡ code.levels - 0 = c.LEVELS.ensures ∙ omega arith in
     let here : t.leaf * 2 ^ 0 + 0 ≡ t.leaf = omega arith in
     record {
       tall = c.requires.tall;
@@ -77,7 +77,7 @@ returns g c =
     let depth = λ (n : ℕ). first_from (depth_search (hash.pair t.origin.hash_key) t.origin.masks t.origin.height t.leaf n ours theirs) 0 n in
     let nodes =
     c.or.ensures
-    ∙ (λ i. option_or (c.climb_to_root-root.ensures.find i) ((c.fold_both-leaf_node.ensures.find ∙ ap depth c.level_count.ensures) i))
+    ∙ (λ i. option_or (c.climb_to_root-root.ensures.find i) ((c.fold_both-leaf_node.ensures.find ∙ ap depth c.LEVELS.ensures) i))
     ∙ nodes-all hash code t ours theirs our-row their-row in
     let is : c.choose-verdict.result ≡ found hash code t = c.choose-verdict.ensures ∙ (λ i. chosen (nodes i) (c.compare_chains-chains.ensures.broken i) (c.compare_chains-chains.ensures.hidden i)) in
     record {

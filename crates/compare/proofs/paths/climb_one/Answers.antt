@@ -39,7 +39,7 @@ returns g c =
     let theirs = their_node hash code t (a + 1) in
     let our-beside : c.grow_node-our_sibling.result ≡ ours (sibling_of position) = c.grow_node-our_sibling.ensures ∙ ap ours c.sibling.ensures in
     let e = h - (a + 1) in
-    let place : c.digit_count.result + (h - a - 1) ≡ code.count + e = omega (arith, c.digit_count.ensures) in
+    let place : c.COUNT.result + (h - a - 1) ≡ code.count + e = omega (arith, c.COUNT.ensures) in
     let level : h - e ≡ a + 1 = omega arith in
     let their-beside : c.string_at-their_sibling.result ≡ theirs (sibling_of position) =
     c.string_at-their_sibling.ensures ∙ ap (string_at t.row) place ∙ sym (their-sibling hash code t e (omega arith)) ∙ (λ i. their_node hash code t (level i) (sibling_of (sym c.requires.place i))) in

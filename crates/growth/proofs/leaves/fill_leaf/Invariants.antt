@@ -9,4 +9,4 @@ use Rattle.growth.proofs.leaves.fill_leaf.Given as goal
 abbrev pub invariant-loop-k : goal.invariant-loop-k
 invariant-loop-k g l =
     (length l.row ≡ 4096)
-    × ((i : ℕ) → i < 256 → string_at l.row i ≡ one_time (g.H.ChainHash.steps l.origin.hash_key) l.k g.C.Code.top (λ j. 0) (secret (hash_of g.H.ChainHash g.H.TreeHash) l.origin l.leaf) i)
+    × ((i : ℕ) → i < 256 → string_at l.row i ≡ one_time (g.H.ChainHash.steps l.origin.hash_key) l.k g.C.Code.TOP (λ j. 0) (secret (hash_of g.H.ChainHash g.H.TreeHash) l.origin l.leaf) i)

@@ -9,12 +9,12 @@ use Rattle.growth.proofs.leaves.leaf_node.Given as given
 use Rattle.growth.proofs.leaves.leaf_node.Goals as goal
 
 -- a leaf has at most 256 strings
-room : (g : given.Over) → 2 ^ g.C.Code.levels ≤ 256
-room g = pow_mono {i = g.C.Code.levels} {j = 8} g.met.C.Code.level_range.1
+room : (g : given.Over) → 2 ^ g.C.Code.LEVELS ≤ 256
+room g = pow_mono {i = g.C.Code.LEVELS} {j = 8} g.met.C.Code.level_range.1
 
 pub fold-requires : goal.fold-requires
 fold-requires g c =
-    let is = c.level_count.ensures in
+    let is = c.LEVELS.ensures in
     let few = g.met.C.Code.level_range in
     record {
       masked = omega arith;
@@ -29,6 +29,6 @@ returns g c =
     let o = c.args.origin.now in
     let held : ℕ → List ℕ = string_at c.fill_leaf.new.row in
     c.fold.ensures
-    ∙ ap (λ n. node (parent_at hash o) held o.height n 0) c.level_count.ensures
+    ∙ ap (λ n. node (parent_at hash o) held o.height n 0) c.LEVELS.ensures
     ∙ node-moved (parent_at hash o) held (leaf_string hash code o c.args.leaf) o.height code.levels 0 0 (λ k lt. c.fill_leaf.ensures (0 * 2 ^ code.levels + k) (omega (arith, zero-mul (2 ^ code.levels), room g)))
     ∙ leaf-is hash code o c.args.leaf

@@ -1,9 +1,11 @@
-use Rattle.std.proofs.Common.{arith, rules}
-use Rattle.sha256.proofs.Blocks.{hashed-none, hashed-more}
+use Rattle.std.proofs.Common.{◌/◌, length, arith, rules}
+use Rattle.sha256.proofs.Blocks.{hashed-none, hashed-chunk}
 use Rattle.sha256.proofs.digest.hash_blocks.Goals as goal
 
-pub loop-i-init : goal.loop-i-init
-loop-i-init c = search (rules, hashed-none)
+pub loop-block-init : goal.loop-block-init
+loop-block-init c = search (rules, hashed-none)
 
-pub loop-i-preserved : goal.loop-i-preserved
-loop-i-preserved c = hashed-more c.loop-i.i _ c.args.start c.loop-i.s _ c.args.bytes.now c.loop-i.invariant (omega arith) c.compress-s.ensures
+pub loop-block-preserved : goal.loop-block-preserved
+loop-block-preserved c =
+    let bytes = c.args.bytes.now in
+    hashed-chunk c.loop-block.block-index (length bytes / 64) c.args.start c.loop-block.s _ bytes _ c.loop-block.invariant (omega (arith, c.as_chunks.ensures.front_len)) c.as_chunks.ensures.front c.compress-s.ensures

@@ -7,4 +7,4 @@ use Rattle.tree.proofs.chains.one_time_strings.Given as goal
 abbrev pub invariant-loop-k : goal.invariant-loop-k
 invariant-loop-k g l =
     (length l.row ≡ 4096)
-    × ((i : ℕ) → i < 256 → string_at l.row i ≡ one_time (g.H.ChainHash.steps l.key) l.k g.C.Code.top (g.C.Code.digits l.stamp) (string_at l.shown) i)
+    × ((i : ℕ) → i < 256 → string_at l.row i ≡ one_time (g.H.ChainHash.steps l.key) l.k g.C.Code.TOP (g.C.Code.digits l.stamp) (string_at l.shown) i)

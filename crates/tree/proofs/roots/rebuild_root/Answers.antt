@@ -6,12 +6,12 @@ use Rattle.tree.proofs.roots.rebuild_root.Given as given
 use Rattle.tree.proofs.roots.rebuild_root.Goals as goal
 
 -- a leaf has at most 256 strings
-room : (g : given.Over) → 2 ^ g.C.Code.levels ≤ 256
-room g = pow_mono {i = g.C.Code.levels} {j = 8} g.met.C.Code.level_range.1
+room : (g : given.Over) → 2 ^ g.C.Code.LEVELS ≤ 256
+room g = pow_mono {i = g.C.Code.LEVELS} {j = 8} g.met.C.Code.level_range.1
 
 pub fold-start-requires : goal.fold-start-requires
 fold-start-requires g c =
-    let is = c.level_count.ensures in
+    let is = c.LEVELS.ensures in
     let few = g.met.C.Code.level_range in
     record {
       masked = omega arith;
@@ -23,11 +23,11 @@ pub returns : goal.returns
 returns g c =
     let row = c.args.row.now in
     let h = c.args.height in
-    let levels = g.C.Code.levels in
+    let levels = g.C.Code.LEVELS in
     let parent : ℕ → List ℕ → List ℕ → List ℕ = join (g.H.TreeHash.pairs c.args.key.now) c.args.masks.now in
-    let bottom : ℕ → List ℕ = one_time (g.H.ChainHash.steps c.args.key.now) g.C.Code.count g.C.Code.top (g.C.Code.digits c.args.stamp.now) (string_at row) in
+    let bottom : ℕ → List ℕ = one_time (g.H.ChainHash.steps c.args.key.now) g.C.Code.COUNT g.C.Code.TOP (g.C.Code.digits c.args.stamp.now) (string_at row) in
     let held : ℕ → List ℕ = string_at c.one_time_strings-strings.result in
     c.climb_path.ensures
-    ∙ ap (λ n. climb parent (λ a. string_at row (n + (h - a))) h c.args.leaf c.fold-start.result) c.digit_count.ensures
-    ∙ ap (climb parent (λ a. string_at row (g.C.Code.count + (h - a))) h c.args.leaf)
-    (c.fold-start.ensures ∙ ap (λ n. node parent held h n 0) c.level_count.ensures ∙ node-moved parent held bottom h levels 0 0 (λ k lt. c.one_time_strings-strings.ensures (0 * 2 ^ levels + k) (omega (arith, zero-mul (2 ^ levels), room g))))
+    ∙ ap (λ n. climb parent (λ a. string_at row (n + (h - a))) h c.args.leaf c.fold-start.result) c.COUNT.ensures
+    ∙ ap (climb parent (λ a. string_at row (g.C.Code.COUNT + (h - a))) h c.args.leaf)
+    (c.fold-start.ensures ∙ ap (λ n. node parent held h n 0) c.LEVELS.ensures ∙ node-moved parent held bottom h levels 0 0 (λ k lt. c.one_time_strings-strings.ensures (0 * 2 ^ levels + k) (omega (arith, zero-mul (2 ^ levels), room g))))

@@ -15,16 +15,16 @@ use Rattle.verifier.proofs.opening.open.Goals as goal
 use Rattle.verifier.proofs.opening.open.Goals.{then-height-lt1-via-then-height-lt1, then-height-lt1-via-else-height-lt1+then-height-gt8, then-height-lt1-via-else-height-lt1+else-height-gt8+then-body-ne0}
 
 -- an answer of the rule reads what writing yields
-whole : (g : given.Over) (bytes : List ℕ) (r : Result Key Refusal) → ((i : ℕ) → Fits w8 (get_or bytes i 0)) → r ≡ open_rule g.H.ChainHash.numbered g.C.Code.number g.C.Code.levels bytes → ReadsKeys g.H.ChainHash.numbered g.C.Code.number g.C.Code.levels bytes r
+whole : (g : given.Over) (bytes : List ℕ) (r : Result Key Refusal) → ((i : ℕ) → Fits w8 (get_or bytes i 0)) → r ≡ open_rule g.H.ChainHash.NUMBER g.C.Code.NUMBER g.C.Code.LEVELS bytes → ReadsKeys g.H.ChainHash.NUMBER g.C.Code.NUMBER g.C.Code.LEVELS bytes r
 whole g bytes r typed is =
     subst (ReadsKeys _ _ _ bytes) (sym is)
-    (reads-keys g.H.ChainHash.numbered g.C.Code.number g.C.Code.levels bytes g.met.C.Code.level_range.1 (bytes-from bytes typed))
+    (reads-keys g.H.ChainHash.NUMBER g.C.Code.NUMBER g.C.Code.LEVELS bytes g.met.C.Code.level_range.1 (bytes-from bytes typed))
 
 pub returns-in_err-body : goal.returns-in_err-body
 returns-in_err-body g c =
     let bytes = c.args.bytes.now in
     let p = err_from_is_err_and c.from_residual.result c.from_residual.ensures.1 in
-    let is : seen key_of c.from_residual.result ≡ open_rule g.H.ChainHash.numbered g.C.Code.number g.C.Code.levels bytes =
+    let is : seen key_of c.from_residual.result ≡ open_rule g.H.ChainHash.NUMBER g.C.Code.NUMBER g.C.Code.LEVELS bytes =
     broken key_of c.from_residual.result p.0 c.in_err-body.field-0.0 (header_rule 1 bytes) _ p.1 p.2 c.in_err-body.ensures in
     record { answer = is; reads = whole g bytes _ c.type_inv.bytes is }
 
@@ -80,15 +80,15 @@ returns-then-height-lt1 g c =
       | then-height-lt1-via-else-height-lt1+then-height-gt8 w ↦ or_right (ltb (height_of bytes) 1) _ (or_left _ _ (lt-ltb 8 (height_of bytes) (omega (arith, w.if-height-gt8.true))))
       | then-height-lt1-via-else-height-lt1+else-height-gt8+then-body-ne0 w ↦ or_right (ltb (height_of bytes) 1) _ (or_right (ltb 8 (height_of bytes)) _ (differ-to (spare_of bytes) 0 (λ e. w.if-body-ne0.true (s ∙ e))))
     ] in
-    let is = too-high bytes body g.H.ChainHash.numbered g.C.Code.number g.C.Code.levels read (c.if-body-hash_number.false ∙ c.hash_number.ensures) (c.if-body-code_number.false ∙ c.code_number.ensures) bad in
+    let is = too-high bytes body g.H.ChainHash.NUMBER g.C.Code.NUMBER g.C.Code.LEVELS read (c.if-body-NUMBER.false ∙ c.NUMBER.ensures) (c.if-body-NUMBER-2.false ∙ c.NUMBER-2.ensures) bad in
     record { answer = is; reads = whole g bytes _ c.type_inv.bytes is }
 
 pub returns-then-bytes-height : goal.returns-then-bytes-height
 returns-then-bytes-height g c =
     let bytes = c.args.bytes.now in
     let body = c.in_ok-body.body.now in
-    let levels = c.level_count.ensures in
-    let is = misfit bytes body g.H.ChainHash.numbered g.C.Code.number g.C.Code.levels c.in_ok-body.ensures (c.if-body-hash_number.false ∙ c.hash_number.ensures) (c.if-body-code_number.false ∙ c.code_number.ensures)
+    let levels = c.LEVELS.ensures in
+    let is = misfit bytes body g.H.ChainHash.NUMBER g.C.Code.NUMBER g.C.Code.LEVELS c.in_ok-body.ensures (c.if-body-NUMBER.false ∙ c.NUMBER.ensures) (c.if-body-NUMBER-2.false ∙ c.NUMBER-2.ensures)
     c.if-height-lt1.false c.if-height-gt8.false c.if-body-ne0.false (λ e. c.if-bytes-height.true (e ∙ omega arith)) in
     record { answer = is; reads = whole g bytes _ c.type_inv.bytes is }
 
@@ -96,7 +96,7 @@ pub returns : goal.returns
 returns g c =
     let bytes = c.args.bytes.now in
     let body = c.in_ok-body.body.now in
-    let levels = c.level_count.ensures in
-    let is = fits bytes body g.H.ChainHash.numbered g.C.Code.number g.C.Code.levels c.in_ok-body.ensures (c.if-body-hash_number.false ∙ c.hash_number.ensures) (c.if-body-code_number.false ∙ c.code_number.ensures)
+    let levels = c.LEVELS.ensures in
+    let is = fits bytes body g.H.ChainHash.NUMBER g.C.Code.NUMBER g.C.Code.LEVELS c.in_ok-body.ensures (c.if-body-NUMBER.false ∙ c.NUMBER.ensures) (c.if-body-NUMBER-2.false ∙ c.NUMBER-2.ensures)
     c.if-height-lt1.false c.if-height-gt8.false c.if-body-ne0.false (c.if-bytes-height.false ∙ omega arith) in
     record { answer = is; reads = whole g bytes _ c.type_inv.bytes is }

@@ -11,7 +11,7 @@ returns-in-Ok g c =
     let is = ap (λ r. of_height r key.height) c.in-Ok.ensures.answer in
     record {
       answer = is;
-      opened = λ hash code levels p. Decides-at _ _ is (suited-opened g.H.ChainHash.numbered g.C.Code.number g.C.Code.levels hash code levels key p);
+      opened = λ hash code levels p. Decides-at _ _ is (suited-opened g.H.ChainHash.NUMBER g.C.Code.NUMBER g.C.Code.LEVELS hash code levels key p);
     }
 
 pub returns-in-Err : goal.returns-in-Err
@@ -20,5 +20,5 @@ returns-in-Err g c =
     let is = ap (λ r. of_height r key.height) c.in-Err.ensures.answer in
     record {
       answer = is;
-      opened = λ hash code levels p. Decides-at _ _ is (suited-opened g.H.ChainHash.numbered g.C.Code.number g.C.Code.levels hash code levels key p);
+      opened = λ hash code levels p. Decides-at _ _ is (suited-opened g.H.ChainHash.NUMBER g.C.Code.NUMBER g.C.Code.LEVELS hash code levels key p);
     }

@@ -39,8 +39,8 @@ module _ (count h : ℕ) (bytes body : List ℕ) (leaf : ℕ) (tall : h ≤ 8) (
 
 pub returns-then-leaf-height : goal.returns-then-leaf-height
 returns-then-leaf-height g c =
-    past g.C.Code.count c.args.height c.args.bytes.now c.args.body.now c.from_le_bytes-leaf.result c.requires.tall c.requires.rest (c.if-bytes-digit_count.false ∙ ap (λ n. release_length n c.args.height) c.digit_count.ensures) c.from_le_bytes-leaf.ensures c.if-leaf-height.true
+    past g.C.Code.COUNT c.args.height c.args.bytes.now c.args.body.now c.from_le_bytes-leaf.result c.requires.tall c.requires.rest (c.if-bytes-COUNT.false ∙ ap (λ n. release_length n c.args.height) c.COUNT.ensures) c.from_le_bytes-leaf.ensures c.if-leaf-height.true
 
 pub returns : goal.returns
 returns g c =
-    good g.C.Code.count c.args.height c.args.bytes.now c.args.body.now c.from_le_bytes-leaf.result c.requires.tall c.requires.rest (c.if-bytes-digit_count.false ∙ ap (λ n. release_length n c.args.height) c.digit_count.ensures) c.from_le_bytes-leaf.ensures c.if-leaf-height.false _ (take_rest c.args.body.now 2)
+    good g.C.Code.COUNT c.args.height c.args.bytes.now c.args.body.now c.from_le_bytes-leaf.result c.requires.tall c.requires.rest (c.if-bytes-COUNT.false ∙ ap (λ n. release_length n c.args.height) c.COUNT.ensures) c.from_le_bytes-leaf.ensures c.if-leaf-height.false _ (take_rest c.args.body.now 2)

@@ -54,11 +54,11 @@ module _ (hash : Hash) (code : Code) (key : Key) (stamp bytes : List ℕ) (shown
 
 pub string_at-hash_key-requires : goal.string_at-hash_key-requires
 string_at-hash_key-requires g c =
-    omega (arith, ap length c.hash_key.ensures, hash-key-laid g.H.ChainHash.numbered (code_of g.C.Code) (key_of c.args.key.now) c.args.bytes.now _ c.in_ok-release.ensures.answer)
+    omega (arith, ap length c.hash_key.ensures, hash-key-laid g.H.ChainHash.NUMBER (code_of g.C.Code) (key_of c.args.key.now) c.args.bytes.now _ c.in_ok-release.ensures.answer)
 
 pub rebuild_root-root-requires : goal.rebuild_root-root-requires
 rebuild_root-root-requires g c =
-    let hash = g.H.ChainHash.numbered in
+    let hash = g.H.ChainHash.NUMBER in
     let code = code_of g.C.Code in
     let key = key_of c.args.key.now in
     let read = c.in_ok-release.ensures.answer in
@@ -69,7 +69,7 @@ rebuild_root-root-requires g c =
 
 pub string_at-wanted-requires : goal.string_at-wanted-requires
 string_at-wanted-requires g c =
-    omega (arith, ap length c.root.ensures, root-laid g.H.ChainHash.numbered (code_of g.C.Code) (key_of c.args.key.now) c.args.bytes.now _ c.in_ok-release.ensures.answer)
+    omega (arith, ap length c.root.ensures, root-laid g.H.ChainHash.NUMBER (code_of g.C.Code) (key_of c.args.key.now) c.args.bytes.now _ c.in_ok-release.ensures.answer)
 
 -- what the comparison answered is what the rule compares
 told : (g : given.Over) (c : After-same g) → c.same.result ≡ bytes_eq (root_shown (hash_of g.H.ChainHash g.H.TreeHash) (code_of g.C.Code) (key_of c.args.key.now) c.args.stamp.now (shown_by c.in_ok-release.release)) (root_of c.args.key.now.bytes.now)

@@ -1,6 +1,6 @@
-use Rattle.std.proofs.Common.{◌≡◌, ℕ, ◌<◌, length, get_or}
+use Rattle.strings.proofs.Laws.{Edited}
 use Rattle.hashes.specs.Practice.{pair_byte}
 use Rattle.hashes.proofs.practice.PracticeTreeHash.pair.Given as goal
 
 abbrev pub invariant-loop-j : goal.invariant-loop-j
-invariant-loop-j l = (length l.out ≡ 16) × ((k : ℕ) → k < l.j → get_or l.out k 0 ≡ pair_byte l.key l.left l.right k)
+invariant-loop-j l = Edited (pair_byte l.key l.left l.right) l.left l.out l.j

@@ -18,11 +18,11 @@ use Rattle.signer.proofs.signer.Signer.sign.Goals as goal
 
 -- what both clauses on acceptance rest on
 module _ {H C : Type 0} (g : given.Over) (s : Signer H C) (stamp : List ℕ) (str : Str stamp) where
-  few : g.C.Code.levels ≤ 8
+  few : g.C.Code.LEVELS ≤ 8
   few = g.met.C.Code.level_range.1
 
-  many : 2 ^ g.C.Code.levels ≤ 256
-  many = pow_mono {i = g.C.Code.levels} {j = 8} few
+  many : 2 ^ g.C.Code.LEVELS ≤ 256
+  many = pow_mono {i = g.C.Code.LEVELS} {j = 8} few
 
   accepts : Rooted (hash_of g.H.ChainHash g.H.TreeHash) (code_of g.C.Code) (signing_of s) → s.next < 2 ^ s.origin.height → Accepts (hash_of g.H.ChainHash g.H.TreeHash) (code_of g.C.Code) (signing_of s) stamp (release_record (hash_of g.H.ChainHash g.H.TreeHash) (code_of g.C.Code) (signing_of s) stamp) s.next
   unfolding release_record
@@ -66,7 +66,7 @@ returns-then-out-size g c =
     let s = signing_of c.args.self.now in
     let out = c.args.out.now in
     let tall = c.args.self.now.tall in
-    let is = c.digit_count.ensures in
+    let is = c.COUNT.ensures in
     let shift = one_shl s.origin.height 16 (omega arith) in
     let left : all_spent s ≡ false = ne_eqb s.next (2 ^ s.origin.height) (λ e. c.if-leaf-self.false (e ∙ sym shift)) in
     let short : no_room code s out ≡ true = lt-ltb (length out) (release_size code s) (omega (arith, c.if-out-size.true)) in
@@ -91,9 +91,9 @@ returns g c =
     let s = signing_of c.args.self.now in
     let out = c.args.out.now in
     let tall = c.args.self.now.tall in
-    let is = c.digit_count.ensures in
+    let is = c.COUNT.ensures in
     let shift = one_shl s.origin.height 16 (omega arith) in
-    let size : 8 + 16 * (c.digit_count.result + s.origin.height) ≡ release_size code s = omega arith in
+    let size : 8 + 16 * (c.COUNT.result + s.origin.height) ≡ release_size code s = omega arith in
     let left : all_spent s ≡ false = ne_eqb s.next (2 ^ s.origin.height) (λ e. c.if-leaf-self.false (e ∙ sym shift)) in
     let room : no_room code s out ≡ false = le-ltb (length out) (release_size code s) (omega (arith, c.if-out-size.false)) in
     let goes = or_from (all_spent s) (no_room code s out) left room in

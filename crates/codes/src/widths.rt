@@ -1,0 +1,109 @@
+// The widths of Winternitz digits.
+ghost use Rattle.std.specs.Prelude.{ℕ, ◌+◌, ◌-◌, ◌*◌, ◌/◌, ◌^◌, ◌<◌, ◌≤◌, refl};
+ghost use Rattle.codes.specs.Codes.{Width};
+ghost use Rattle.std.proofs.Common.{lit<, lit≤};
+
+// How wide digits are, and what a code with such digits has.
+pub trait DigitWidth {
+    // The code's own number.
+    const NUMBER: u8;
+
+    ghost NUMBER: { ℕ };
+
+    // The bits of a digit.
+    const WIDTH: usize;
+
+    ghost WIDTH: { ℕ };
+
+    // How many digits the checksum takes.
+    const ENDS: usize;
+
+    ghost ENDS: { ℕ };
+
+    // The levels of the tree inside a leaf.
+    const LEVELS: u8;
+
+    ghost LEVELS: { ℕ };
+
+    ghost number_range: { NUMBER < 256 };
+
+    ghost wide: { Width WIDTH };
+
+    ghost tops: { (1 ≤ 2 ^ WIDTH - 1) × (2 ^ WIDTH - 1 ≤ 15) };
+
+    ghost room: { 128 / WIDTH * 2 ^ WIDTH < 2 ^ (WIDTH * ENDS) };
+
+    ghost short: { WIDTH * ENDS < 16 };
+
+    ghost leaves: { (1 ≤ 128 / WIDTH + ENDS) × (128 / WIDTH + ENDS ≤ 2 ^ LEVELS) };
+
+    ghost level_range: { (1 ≤ LEVELS) × (LEVELS ≤ 8) };
+}
+
+pub struct TwoBits;
+
+impl DigitWidth for TwoBits {
+    const NUMBER: u8 = 2;
+
+    ghost NUMBER = { 2 };
+
+    const WIDTH: usize = 2;
+
+    ghost WIDTH = { 2 };
+
+    const ENDS: usize = 5;
+
+    ghost ENDS = { 5 };
+
+    const LEVELS: u8 = 7;
+
+    ghost LEVELS = { 7 };
+
+    ghost number_range = { lit< tt };
+
+    ghost wide = { (refl, lit< tt) };
+
+    ghost tops = { (lit≤ tt, lit≤ tt) };
+
+    ghost room = { lit< tt };
+
+    ghost short = { lit< tt };
+
+    ghost leaves = { (lit≤ tt, lit≤ tt) };
+
+    ghost level_range = { (lit≤ tt, lit≤ tt) };
+}
+
+pub struct FourBits;
+
+impl DigitWidth for FourBits {
+    const NUMBER: u8 = 3;
+
+    ghost NUMBER = { 3 };
+
+    const WIDTH: usize = 4;
+
+    ghost WIDTH = { 4 };
+
+    const ENDS: usize = 3;
+
+    ghost ENDS = { 3 };
+
+    const LEVELS: u8 = 6;
+
+    ghost LEVELS = { 6 };
+
+    ghost number_range = { lit< tt };
+
+    ghost wide = { (refl, lit< tt) };
+
+    ghost tops = { (lit≤ tt, lit≤ tt) };
+
+    ghost room = { lit< tt };
+
+    ghost short = { lit< tt };
+
+    ghost leaves = { (lit≤ tt, lit≤ tt) };
+
+    ghost level_range = { (lit≤ tt, lit≤ tt) };
+}
