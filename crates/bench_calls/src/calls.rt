@@ -10,7 +10,7 @@ use crate::lives::{grow_with, key_with, sign_with, trace_with, verify_with};
 use crate::reply::{Reply, one_number, three_numbers, two_numbers};
 use crate::source::Source;
 use aes128::Aes128Hash;
-use codes::{Code, LamportDiffie, Winternitz2, Winternitz4};
+use codes::{Code, DigitWidth, FourBits, LamportDiffie, TwoBits, Winternitz2, Winternitz4};
 use hashes::{ChainHash, Practice, TreeHash};
 use sha256::Sha256Hash;
 use verifier::Refusal;
@@ -25,8 +25,8 @@ fn verify_by_code<H: TreeHash>(
 {
     match code {
         LamportDiffie::NUMBER => verify_with::<H, LamportDiffie>(key, stamp, record),
-        Winternitz2::NUMBER => verify_with::<H, Winternitz2>(key, stamp, record),
-        Winternitz4::NUMBER => verify_with::<H, Winternitz4>(key, stamp, record),
+        TwoBits::NUMBER => verify_with::<H, Winternitz2>(key, stamp, record),
+        FourBits::NUMBER => verify_with::<H, Winternitz4>(key, stamp, record),
         _ => Err(Refusal::Parameters),
     }
 }
@@ -63,8 +63,8 @@ fn grow_by_code<H: TreeHash>(
 {
     match code {
         LamportDiffie::NUMBER => grow_with::<H, LamportDiffie>(source, leaves, level, node),
-        Winternitz2::NUMBER => grow_with::<H, Winternitz2>(source, leaves, level, node),
-        Winternitz4::NUMBER => grow_with::<H, Winternitz4>(source, leaves, level, node),
+        TwoBits::NUMBER => grow_with::<H, Winternitz2>(source, leaves, level, node),
+        FourBits::NUMBER => grow_with::<H, Winternitz4>(source, leaves, level, node),
         _ => Err(Refusal::Parameters),
     }
 }
@@ -102,8 +102,8 @@ fn key_by_code<H: TreeHash>(
 {
     match code {
         LamportDiffie::NUMBER => key_with::<H, LamportDiffie>(source, turns, out),
-        Winternitz2::NUMBER => key_with::<H, Winternitz2>(source, turns, out),
-        Winternitz4::NUMBER => key_with::<H, Winternitz4>(source, turns, out),
+        TwoBits::NUMBER => key_with::<H, Winternitz2>(source, turns, out),
+        FourBits::NUMBER => key_with::<H, Winternitz4>(source, turns, out),
         _ => Err(Refusal::Parameters),
     }
 }
@@ -141,8 +141,8 @@ fn sign_by_code<H: TreeHash>(
 {
     match code {
         LamportDiffie::NUMBER => sign_with::<H, LamportDiffie>(source, leaf, stamp, out),
-        Winternitz2::NUMBER => sign_with::<H, Winternitz2>(source, leaf, stamp, out),
-        Winternitz4::NUMBER => sign_with::<H, Winternitz4>(source, leaf, stamp, out),
+        TwoBits::NUMBER => sign_with::<H, Winternitz2>(source, leaf, stamp, out),
+        FourBits::NUMBER => sign_with::<H, Winternitz4>(source, leaf, stamp, out),
         _ => Err(Refusal::Parameters),
     }
 }
@@ -185,10 +185,10 @@ fn trace_by_code<H: TreeHash>(
         LamportDiffie::NUMBER => trace_with::<H, LamportDiffie>(
             source, leaf, spent, stamp, record, report,
         ),
-        Winternitz2::NUMBER => trace_with::<H, Winternitz2>(
+        TwoBits::NUMBER => trace_with::<H, Winternitz2>(
             source, leaf, spent, stamp, record, report,
         ),
-        Winternitz4::NUMBER => trace_with::<H, Winternitz4>(
+        FourBits::NUMBER => trace_with::<H, Winternitz4>(
             source, leaf, spent, stamp, record, report,
         ),
         _ => Err(Refusal::Parameters),

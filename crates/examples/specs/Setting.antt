@@ -4,8 +4,11 @@ use Rattle.std.specs.Prelude.{ℕ, List, ◌∷◌, replicate}
 use Rattle.hashes.specs.contracts.practice.PracticeChainHash.TheImpl as practice_chain
 use Rattle.hashes.specs.contracts.practice.PracticeTreeHash.TheImpl as practice_tree
 use Rattle.codes.specs.contracts.lamport_diffie.LamportDiffieCode.TheImpl as lamport_diffie
-use Rattle.codes.specs.contracts.winternitz.Winternitz2Code.TheImpl as winternitz2
-use Rattle.codes.specs.contracts.winternitz.Winternitz4Code.TheImpl as winternitz4
+use Rattle.codes.specs.contracts.widths.TwoBits as two_bits
+use Rattle.codes.specs.contracts.widths.TwoBitsDigitWidth.TheImpl as two_bits_width
+use Rattle.codes.specs.contracts.widths.FourBits as four_bits
+use Rattle.codes.specs.contracts.widths.FourBitsDigitWidth.TheImpl as four_bits_width
+use Rattle.codes.specs.contracts.winternitz.WinternitzCode.TheImpl as winternitz
 use Rattle.tree.specs.Meaning.{Hash, Code, hash_of, code_of}
 use Rattle.growth.specs.declared.origin.Origin.{Origin}
 use Rattle.histories.specs.Rules.{begin_rule, finish_rule}
@@ -23,10 +26,10 @@ abbrev pub code1 : Code
 code1 = code_of lamport_diffie.ghosts
 
 abbrev pub code2 : Code
-code2 = code_of winternitz2.ghosts
+code2 = code_of (winternitz.ghosts two_bits.the_row two_bits_width.ghosts two_bits_width.dict)
 
 abbrev pub code3 : Code
-code3 = code_of winternitz4.ghosts
+code3 = code_of (winternitz.ghosts four_bits.the_row four_bits_width.ghosts four_bits_width.dict)
 
 -- seed, hash key and masks zero
 abbrev pub origin : ℕ → Origin

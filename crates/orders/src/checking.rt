@@ -12,7 +12,7 @@ ghost use Rattle.verifier.specs.declared.refusal.Refusal.{Refusal};
 use crate::records::split_record;
 use crate::{KeySummary, Report};
 use aes128::Aes128Hash;
-use codes::{Code, LamportDiffie, Winternitz2, Winternitz4};
+use codes::{Code, DigitWidth, FourBits, LamportDiffie, TwoBits, Winternitz2, Winternitz4};
 use hashes::{ChainHash, Practice, TreeHash};
 use sha256::Sha256Hash;
 use std::alloc::{AllocError, Global};
@@ -116,8 +116,8 @@ fn check_by_code<H: TreeHash>(heap: Global, key: &[u8], orders: &[u8]) -> Result
 {
     match byte_at(key, 7) {
         LamportDiffie::NUMBER => check_with::<H, LamportDiffie>(heap, key, orders),
-        Winternitz2::NUMBER => check_with::<H, Winternitz2>(heap, key, orders),
-        Winternitz4::NUMBER => check_with::<H, Winternitz4>(heap, key, orders),
+        TwoBits::NUMBER => check_with::<H, Winternitz2>(heap, key, orders),
+        FourBits::NUMBER => check_with::<H, Winternitz4>(heap, key, orders),
         _ => Ok(unknown(heap, key)),
     }
 }

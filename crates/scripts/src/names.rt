@@ -3,7 +3,7 @@ ghost use Rattle.std.specs.Prelude.{◌≡◌};
 ghost use Rattle.scripts.specs.Begins.{hash_numbered, code_numbered};
 
 use aes128::Aes128Hash;
-use codes::{Code, LamportDiffie, Winternitz2, Winternitz4};
+use codes::{Code, DigitWidth, FourBits, LamportDiffie, TwoBits};
 use hashes::{ChainHash, Practice};
 use sha256::Sha256Hash;
 
@@ -42,8 +42,8 @@ impl CodeName {
     {
         match number {
             LamportDiffie::NUMBER => Some(CodeName::LamportDiffie),
-            Winternitz2::NUMBER => Some(CodeName::Winternitz2),
-            Winternitz4::NUMBER => Some(CodeName::Winternitz4),
+            TwoBits::NUMBER => Some(CodeName::Winternitz2),
+            FourBits::NUMBER => Some(CodeName::Winternitz4),
             _ => None,
         }
     }

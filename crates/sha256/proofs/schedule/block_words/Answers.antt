@@ -7,8 +7,7 @@ use Rattle.sha256.proofs.schedule.block_words.Goals as goal
 pub loop-t-preserved : goal.loop-t-preserved
 loop-t-preserved c =
     let block = c.args.block.now in
-    let word = word-chunk block c.loop-t.t (length block / 4) _ (omega (arith, c.as_chunks.ensures.front_len)) c.as_chunks.ensures.front in
-    (
+    let word = word-chunk block c.loop-t.t (length block / 4) _ (omega (arith, c.as_chunks.ensures.front_len)) c.as_chunks.ensures.front in (
       length-set c.loop-t.w c.loop-t.t _ ∙ c.loop-t.invariant.0,
       filled_more (word_at block) c.loop-t.w c.loop-t.t c.from_be_bytes.result (omega (arith, c.as_chunks.ensures.front_len)) (c.from_be_bytes.ensures ∙ word) c.loop-t.invariant.1,
     )

@@ -80,7 +80,7 @@ returns-then-height-lt1 g c =
       | then-height-lt1-via-else-height-lt1+then-height-gt8 w ↦ or_right (ltb (height_of bytes) 1) _ (or_left _ _ (lt-ltb 8 (height_of bytes) (omega (arith, w.if-height-gt8.true))))
       | then-height-lt1-via-else-height-lt1+else-height-gt8+then-body-ne0 w ↦ or_right (ltb (height_of bytes) 1) _ (or_right (ltb 8 (height_of bytes)) _ (differ-to (spare_of bytes) 0 (λ e. w.if-body-ne0.true (s ∙ e))))
     ] in
-    let is = too-high bytes body g.H.ChainHash.NUMBER g.C.Code.NUMBER g.C.Code.LEVELS read (c.if-body-NUMBER.false ∙ c.NUMBER.ensures) (c.if-body-NUMBER-2.false ∙ c.NUMBER-2.ensures) bad in
+    let is = too-high bytes body g.H.ChainHash.NUMBER g.C.Code.NUMBER g.C.Code.LEVELS read (c.if-body-NUMBER.false ∙ c.NUMBER.ensures) (c.if-body-NUMBER-2.false ∙ c.NUMBER-else-body-NUMBER.ensures) bad in
     record { answer = is; reads = whole g bytes _ c.type_inv.bytes is }
 
 pub returns-then-bytes-height : goal.returns-then-bytes-height
@@ -88,7 +88,7 @@ returns-then-bytes-height g c =
     let bytes = c.args.bytes.now in
     let body = c.in_ok-body.body.now in
     let levels = c.LEVELS.ensures in
-    let is = misfit bytes body g.H.ChainHash.NUMBER g.C.Code.NUMBER g.C.Code.LEVELS c.in_ok-body.ensures (c.if-body-NUMBER.false ∙ c.NUMBER.ensures) (c.if-body-NUMBER-2.false ∙ c.NUMBER-2.ensures)
+    let is = misfit bytes body g.H.ChainHash.NUMBER g.C.Code.NUMBER g.C.Code.LEVELS c.in_ok-body.ensures (c.if-body-NUMBER.false ∙ c.NUMBER.ensures) (c.if-body-NUMBER-2.false ∙ c.NUMBER-else-body-NUMBER.ensures)
     c.if-height-lt1.false c.if-height-gt8.false c.if-body-ne0.false (λ e. c.if-bytes-height.true (e ∙ omega arith)) in
     record { answer = is; reads = whole g bytes _ c.type_inv.bytes is }
 
@@ -97,6 +97,6 @@ returns g c =
     let bytes = c.args.bytes.now in
     let body = c.in_ok-body.body.now in
     let levels = c.LEVELS.ensures in
-    let is = fits bytes body g.H.ChainHash.NUMBER g.C.Code.NUMBER g.C.Code.LEVELS c.in_ok-body.ensures (c.if-body-NUMBER.false ∙ c.NUMBER.ensures) (c.if-body-NUMBER-2.false ∙ c.NUMBER-2.ensures)
+    let is = fits bytes body g.H.ChainHash.NUMBER g.C.Code.NUMBER g.C.Code.LEVELS c.in_ok-body.ensures (c.if-body-NUMBER.false ∙ c.NUMBER.ensures) (c.if-body-NUMBER-2.false ∙ c.NUMBER-else-body-NUMBER.ensures)
     c.if-height-lt1.false c.if-height-gt8.false c.if-body-ne0.false (c.if-bytes-height.false ∙ omega arith) in
     record { answer = is; reads = whole g bytes _ c.type_inv.bytes is }
