@@ -13,8 +13,7 @@ pub fn climb_chain<H: ChainHash>(key: &[u8; 16], string: &[u8; 16], times: u8) -
 {
     let mut at = *string;
     for _ in 0..times {
-        let stepped = H::step(key, &at);
-        at = stepped;
+        at = H::step(key, &at);
     }
     at
 }

@@ -4,56 +4,52 @@ ghost use Rattle.strings.specs.Strings.{string_at};
 ghost use Rattle.tree.specs.Nodes.{join, node};
 
 use hashes::TreeHash;
+use std::marker::PhantomData;
 use strings::{mask, put_string, string_at};
 
-// The parent at `level` of two children.
-pub fn parent<H: TreeHash>(
-    key: &[u8; 16],
-    masks: &[u8],
-    level: usize,
-    left: &[u8; 16],
-    right: &[u8; 16],
-) -> [u8; 16]
-    requires { 32 * level + 32 ≤ length masks.now }
-    ensures { result ≡ join (H.TreeHash.pairs key.now) masks.now level left.now right.now }
-{
-    let left = mask(left, &string_at(masks, 2 * level));
-    let right = mask(right, &string_at(masks, 2 * level + 1));
-    H::pair(key, &left, &right)
+// What nodes are joined by: a tree hash, its key, and the left and right mask of each level.
+pub struct Joiner<'a, H> {
+    pub key: &'a [u8; 16],
+    // String 2a is the left mask of level a, string 2a + 1 the right one.
+    pub masks: &'a [u8],
+    pub hash: PhantomData<H>,
 }
 
-// Writes the `n` parents at `level` of the first 2n strings of `row` over its first n strings. Nothing is promised of
-// the strings after them.
-pub fn fold_level<H: TreeHash>(key: &[u8; 16], masks: &[u8], level: usize, row: &mut [u8], n: usize)
-    requires masked { 32 * level + 32 ≤ length masks.now }
-    requires within { 32 * n ≤ length row.old }
-    ensures { (k : ℕ) → k < n → string_at row.new k ≡ join (H.TreeHash.pairs key.now) masks.now level (string_at row.old (2 * k)) (string_at row.old (2 * k + 1)) }
-{
-    for p in 0..n {
-        let left = string_at(row, 2 * p);
-        let right = string_at(row, 2 * p + 1);
-        let joined = parent::<H>(key, masks, level, &left, &right);
-        put_string(row, p, &joined);
+impl<H: TreeHash> Joiner<'_, H> {
+    // The parent at `level` of two children.
+    pub fn parent(&self, level: usize, left: &[u8; 16], right: &[u8; 16]) -> [u8; 16]
+        requires { 32 * level + 32 ≤ length self.now.masks.now }
+        ensures { result ≡ join (H.TreeHash.pairs self.now.key.now) self.now.masks.now level left.now right.now }
+    {
+        let left = mask(left, &string_at(self.masks, 2 * level));
+        let right = mask(right, &string_at(self.masks, 2 * level + 1));
+        H::pair(self.key, &left, &right)
     }
-}
 
-// The node at `level` over the first 2^levels strings of `row`, which lie `levels` below it. The row is used up.
-pub fn fold<H: TreeHash>(
-    key: &[u8; 16],
-    masks: &[u8],
-    level: usize,
-    levels: usize,
-    row: &mut [u8],
-) -> [u8; 16]
-    requires masked { 32 * (level + levels) ≤ length masks.now }
-    requires within { 16 * 2 ^ levels ≤ length row.old }
-    requires few { levels ≤ 8 }
-    ensures { result ≡ node (join (H.TreeHash.pairs key.now) masks.now) (string_at row.old) level levels 0 }
-{
-    let mut left = levels;
-    while left > 0 {
-        left -= 1;
-        fold_level::<H>(key, masks, level + left, row, 1 << left);
+    // Writes the `n` parents at `level` of the first 2n strings of `row` over its first n strings. Nothing is promised
+    // of the strings after them.
+    pub fn fold_level(&self, level: usize, row: &mut [u8], n: usize)
+        requires masked { 32 * level + 32 ≤ length self.now.masks.now }
+        requires within { 32 * n ≤ length row.old }
+        ensures { (k : ℕ) → k < n → string_at row.new k ≡ join (H.TreeHash.pairs self.now.key.now) self.now.masks.now level (string_at row.old (2 * k)) (string_at row.old (2 * k + 1)) }
+    {
+        for p in 0..n {
+            let left = string_at(row, 2 * p);
+            let right = string_at(row, 2 * p + 1);
+            put_string(row, p, &self.parent(level, &left, &right));
+        }
     }
-    string_at(row, 0)
+
+    // The node at `level` over the first 2^levels strings of `row`, which lie `levels` below it. The row is used up.
+    pub fn fold(&self, level: usize, levels: usize, row: &mut [u8]) -> [u8; 16]
+        requires masked { 32 * (level + levels) ≤ length self.now.masks.now }
+        requires within { 16 * 2 ^ levels ≤ length row.old }
+        requires few { levels ≤ 8 }
+        ensures { result ≡ node (join (H.TreeHash.pairs self.now.key.now) self.now.masks.now) (string_at row.old) level levels 0 }
+    {
+        for left in (0..levels).rev() {
+            self.fold_level(level + left, row, 1 << left);
+        }
+        string_at(row, 0)
+    }
 }

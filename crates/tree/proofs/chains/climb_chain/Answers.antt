@@ -9,7 +9,7 @@ loop-init g c = sym (raise-none _ _)
 pub loop-preserved : goal.loop-preserved
 loop-preserved g c =
     let step = g.H.ChainHash.steps c.args.key.now in
-    c.step-stepped.ensures ∙ ap step c.loop.invariant ∙ raise-more step c.loop.counter c.args.string.now
+    c.step-at.ensures ∙ ap step c.loop.invariant ∙ raise-more step c.loop.counter c.args.string.now
 
 pub returns : goal.returns
 returns g c =

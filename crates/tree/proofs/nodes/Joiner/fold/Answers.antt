@@ -2,11 +2,11 @@ use Rattle.std.proofs.Common.{◌≡◌, ◌+◌, ◌-◌, ◌^◌, ap, ◌∙�
 use Rattle.strings.specs.Strings.{string_at}
 use Rattle.tree.specs.Nodes.{join, node}
 use Rattle.tree.proofs.Laws.{fold-none, fold_more, shift_one, double-pow}
-use Rattle.tree.proofs.nodes.fold.Goals as goal
+use Rattle.tree.proofs.nodes.Joiner.fold.Goals as goal
 
 pub loop-left-init : goal.loop-left-init
 loop-left-init g c =
-    (omega arith, λ k h. fold-none (join (g.H.TreeHash.pairs c.args.key.now) c.args.masks.now) (string_at c.args.row.now) (c.args.level + c.args.levels) c.args.levels k)
+    (omega arith, λ k h. fold-none (join (g.H.TreeHash.pairs c.args.self.now.key.now) c.args.self.now.masks.now) (string_at c.args.row.now) (c.args.level + c.args.levels) c.args.levels k)
 
 pub fold_level-requires : goal.fold_level-requires
 fold_level-requires g c =
@@ -20,7 +20,7 @@ pub loop-left-preserved : goal.loop-left-preserved
 loop-left-preserved g c =
     let left = c.loop-left.left in (
       omega arith,
-      fold_more (join (g.H.TreeHash.pairs c.args.key.now) c.args.masks.now) (string_at c.args.row.now)
+      fold_more (join (g.H.TreeHash.pairs c.args.self.now.key.now) c.args.self.now.masks.now) (string_at c.args.row.now)
           (string_at c.loop-left.row) (string_at c.fold_level.new.row) (2 ^ (left - 1)) (2 ^ left)
           (c.args.level + (left - 1)) (c.args.levels - left) (c.args.level + left) (c.args.levels - (left - 1))
           (omega arith) (omega arith) (double-pow (left - 1) left (omega arith))
@@ -30,7 +30,7 @@ loop-left-preserved g c =
 
 pub returns : goal.returns
 returns g c =
-    let row = node (join (g.H.TreeHash.pairs c.args.key.now) c.args.masks.now) (string_at c.args.row.now) in
+    let row = node (join (g.H.TreeHash.pairs c.args.self.now.key.now) c.args.self.now.masks.now) (string_at c.args.row.now) in
     let none : c.loop-left.left ≡ 0 = omega arith in
     c.string_at.ensures
     ∙ c.loop-left.invariant.1 0 (pow_pos c.loop-left.left)

@@ -2,8 +2,8 @@ use Rattle.std.proofs.Common.{ℕ, ◌+◌, ◌-◌, ◌*◌, ◌^◌, ◌≤◌
 use Rattle.strings.specs.Strings.{string_at}
 use Rattle.tree.specs.Nodes.{join, node, climb, one_time}
 use Rattle.tree.proofs.Laws.{node-moved}
-use Rattle.tree.proofs.roots.rebuild_root.Given as given
-use Rattle.tree.proofs.roots.rebuild_root.Goals as goal
+use Rattle.tree.proofs.nodes.Joiner.rebuild_root.Given as given
+use Rattle.tree.proofs.nodes.Joiner.rebuild_root.Goals as goal
 
 -- a leaf has at most 256 strings
 room : (g : given.Over) → 2 ^ g.C.Code.LEVELS ≤ 256
@@ -24,8 +24,8 @@ returns g c =
     let row = c.args.row.now in
     let h = c.args.height in
     let levels = g.C.Code.LEVELS in
-    let parent : ℕ → List ℕ → List ℕ → List ℕ = join (g.H.TreeHash.pairs c.args.key.now) c.args.masks.now in
-    let bottom : ℕ → List ℕ = one_time (g.H.ChainHash.steps c.args.key.now) g.C.Code.COUNT g.C.Code.TOP (g.C.Code.digits c.args.stamp.now) (string_at row) in
+    let parent : ℕ → List ℕ → List ℕ → List ℕ = join (g.H.TreeHash.pairs c.args.self.now.key.now) c.args.self.now.masks.now in
+    let bottom : ℕ → List ℕ = one_time (g.H.ChainHash.steps c.args.self.now.key.now) g.C.Code.COUNT g.C.Code.TOP (g.C.Code.digits c.args.stamp.now) (string_at row) in
     let held : ℕ → List ℕ = string_at c.one_time_strings-strings.result in
     c.climb_path.ensures
     ∙ ap (λ n. climb parent (λ a. string_at row (n + (h - a))) h c.args.leaf c.fold-start.result) c.COUNT.ensures
