@@ -6,7 +6,5 @@ mod origin;
 mod shown;
 mod stack;
 
-pub use leaves::{chain_string, grow_node, leaf_node};
-pub use origin::Origin;
-pub use shown::{shown_string, sibling};
-pub use stack::add_leaf;
+pub use origin::{Origin, Tree};
+pub use shown::sibling;

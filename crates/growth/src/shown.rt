@@ -1,10 +1,9 @@
 // What a release of a leaf shows.
-ghost use Rattle.std.specs.Prelude.{◌≡◌, ◌+◌, ◌^◌, ◌<◌, ◌≤◌};
+ghost use Rattle.std.specs.Prelude.{◌≡◌, ◌+◌, ◌^◌, ◌<◌};
 ghost use Rattle.growth.specs.Shown.{sibling_of, shown_string};
 ghost use Rattle.tree.specs.Meaning.{hash_of, code_of};
 
-use crate::Origin;
-use crate::leaves::{chain_string, grow_node};
+use crate::Tree;
 use codes::Code;
 use hashes::TreeHash;
 
@@ -20,23 +19,23 @@ pub fn sibling(position: u16) -> u16
     }
 }
 
-// String `k` of a release of a leaf. The work buffer is used up.
-pub fn shown_string<H: TreeHash, C: Code>(
-    origin: &Origin,
-    leaf: u16,
-    stamp: &[u8; 16],
-    k: usize,
-    work: &mut [u8; 4096],
-) -> [u8; 16]
-    requires tall { origin.now.height ≤ 8 }
-    requires there { leaf < 2 ^ origin.now.height }
-    requires within { k < C.Code.COUNT + origin.now.height }
-    ensures { result ≡ shown_string (hash_of H.ChainHash H.TreeHash.own) (code_of C.Code) origin.now leaf stamp.now k }
-{
-    let count = C::COUNT;
-    if k < count {
-        return chain_string::<H>(origin, leaf, k, C::digit(stamp, k));
+impl<H: TreeHash, C: Code> Tree<'_, H, C> {
+    // String `k` of a release of a leaf. The work buffer is used up.
+    pub fn shown_string(
+        &self,
+        leaf: u16,
+        stamp: &[u8; 16],
+        k: usize,
+        work: &mut [u8; 4096],
+    ) -> [u8; 16]
+        requires there { leaf < 2 ^ self.now.origin.now.height }
+        requires within { k < C.Code.COUNT + self.now.origin.now.height }
+        ensures { result ≡ shown_string (hash_of H.ChainHash H.TreeHash.own) (code_of C.Code) self.now.origin.now leaf stamp.now k }
+    {
+        if k < C::COUNT {
+            return self.origin.chain_string::<H>(leaf, k, C::digit(stamp, k));
+        }
+        let e = k - C::COUNT;
+        self.grow_node(self.origin.height as usize - e, sibling(leaf >> e), work)
     }
-    let e = k - count;
-    grow_node::<H, C>(origin, origin.height as usize - e, sibling(leaf >> e), work)
 }

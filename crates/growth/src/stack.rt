@@ -1,38 +1,32 @@
 // The nodes that are held while a tree is grown.
-ghost use Rattle.std.specs.Prelude.{◌≡◌, ◌+◌, ◌^◌, ◌<◌, ◌≤◌};
+ghost use Rattle.std.specs.Prelude.{◌≡◌, ◌+◌, ◌^◌, ◌<◌};
 ghost use Rattle.growth.specs.Grown.{Holds, with_leaf};
 ghost use Rattle.tree.specs.Meaning.{hash_of, code_of};
 
-use crate::Origin;
-use crate::leaves::leaf_node;
+use crate::Tree;
 use codes::Code;
 use hashes::TreeHash;
 use strings::{ZERO, put_string, string_at};
-use tree::nodes::parent;
 
-// Adds leaf number `grown` to a tree of which the leaves before it are in. String a of `nodes` is what is held at
-// level a; nodes over full subtrees of equal size join. The work buffer is used up.
-pub fn add_leaf<H: TreeHash, C: Code>(
-    origin: &Origin,
-    grown: u16,
-    nodes: &mut [u8; 144],
-    work: &mut [u8; 4096],
-)
-    requires tall { origin.now.height ≤ 8 }
-    requires room { grown < 2 ^ origin.now.height }
-    ensures after { nodes.new ≡ with_leaf (hash_of H.ChainHash H.TreeHash.own) (code_of C.Code) origin.now grown nodes.old }
-    ensures held { Holds (hash_of H.ChainHash H.TreeHash.own) (code_of C.Code) origin.now grown nodes.old → Holds (hash_of H.ChainHash H.TreeHash.own) (code_of C.Code) origin.now (grown + 1) nodes.new }
-{
-    let mut node = leaf_node::<H, C>(origin, grown, work);
-    let mut level = origin.height as usize;
-    let mut position = grown;
-    while position % 2 == 1 {
-        let left = string_at(nodes, level);
-        put_string(nodes, level, &ZERO);
-        level -= 1;
-        let joined = parent::<H>(&origin.hash_key, &origin.masks, level, &left, &node);
-        node = joined;
-        position /= 2;
+impl<H: TreeHash, C: Code> Tree<'_, H, C> {
+    // Adds leaf number `grown` to a tree of which the leaves before it are in. String a of `nodes` is what is held at
+    // level a; nodes over full subtrees of equal size join. The work buffer is used up.
+    pub fn add_leaf(&self, grown: u16, nodes: &mut [u8; 144], work: &mut [u8; 4096])
+        requires { grown < 2 ^ self.now.origin.now.height }
+        ensures after { nodes.new ≡ with_leaf (hash_of H.ChainHash H.TreeHash.own) (code_of C.Code) self.now.origin.now grown nodes.old }
+        ensures held { Holds (hash_of H.ChainHash H.TreeHash.own) (code_of C.Code) self.now.origin.now grown nodes.old → Holds (hash_of H.ChainHash H.TreeHash.own) (code_of C.Code) self.now.origin.now (grown + 1) nodes.new }
+    {
+        let joiner = self.origin.joiner::<H>();
+        let mut node = self.leaf_node(grown, work);
+        let mut level = self.origin.height as usize;
+        let mut position = grown;
+        while position % 2 == 1 {
+            let left = string_at(nodes, level);
+            put_string(nodes, level, &ZERO);
+            level -= 1;
+            node = joiner.parent(level, &left, &node);
+            position /= 2;
+        }
+        put_string(nodes, level, &node);
     }
-    put_string(nodes, level, &node);
 }

@@ -8,6 +8,7 @@ use std::marker::PhantomData;
 use strings::{mask, put_string, string_at};
 
 // What nodes are joined by: a tree hash, its key, and the left and right mask of each level.
+#[derive(Drop)]
 pub struct Joiner<'a, H> {
     pub key: &'a [u8; 16],
     // String 2a is the left mask of level a, string 2a + 1 the right one.

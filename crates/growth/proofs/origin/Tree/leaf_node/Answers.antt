@@ -1,12 +1,12 @@
 use Rattle.std.proofs.Common.{ℕ, ◌+◌, ◌*◌, ◌^◌, ◌≤◌, List, ap, ◌∙◌, zero-mul, arith, pow_mono}
 use Rattle.strings.specs.Strings.{string_at}
 use Rattle.tree.specs.Meaning.{hash_of, code_of}
-use Rattle.tree.specs.Nodes.{node}
+use Rattle.tree.specs.Nodes.{join, node}
 use Rattle.tree.proofs.Laws.{node-moved}
 use Rattle.growth.specs.Grown.{leaf_string, parent_at}
 use Rattle.growth.proofs.Trees.{leaf-is}
-use Rattle.growth.proofs.leaves.leaf_node.Given as given
-use Rattle.growth.proofs.leaves.leaf_node.Goals as goal
+use Rattle.growth.proofs.origin.Tree.leaf_node.Given as given
+use Rattle.growth.proofs.origin.Tree.leaf_node.Goals as goal
 
 -- a leaf has at most 256 strings
 room : (g : given.Over) → 2 ^ g.C.Code.LEVELS ≤ 256
@@ -15,6 +15,8 @@ room g = pow_mono {i = g.C.Code.LEVELS} {j = 8} g.met.C.Code.level_range.1
 pub fold-requires : goal.fold-requires
 fold-requires g c =
     let is = c.LEVELS.ensures in
+    let long = c.joiner-joiner.ensures.long in
+    let tall = c.args.self.now.tall in
     let few = g.met.C.Code.level_range in
     record {
       masked = omega arith;
@@ -26,9 +28,10 @@ pub returns : goal.returns
 returns g c =
     let hash = hash_of g.H.ChainHash g.H.TreeHash in
     let code = code_of g.C.Code in
-    let o = c.args.origin.now in
+    let o = c.args.self.now.origin.now in
     let held : ℕ → List ℕ = string_at c.fill_leaf.new.row in
+    let joined = c.joiner-joiner.ensures in
     c.fold.ensures
-    ∙ ap (λ n. node (parent_at hash o) held o.height n 0) c.LEVELS.ensures
+    ∙ (λ i. node (join (hash.pair (joined.key i)) (joined.masks i)) held o.height (c.LEVELS.ensures i) 0)
     ∙ node-moved (parent_at hash o) held (leaf_string hash code o c.args.leaf) o.height code.levels 0 0 (λ k lt. c.fill_leaf.ensures (0 * 2 ^ code.levels + k) (omega (arith, zero-mul (2 ^ code.levels), room g)))
     ∙ leaf-is hash code o c.args.leaf

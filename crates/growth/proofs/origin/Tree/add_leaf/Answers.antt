@@ -2,14 +2,15 @@ use Rattle.std.proofs.Common.{◌≡◌, ◌+◌, ◌-◌, ◌*◌, ◌/◌, ◌
 use Rattle.std.proofs.lemmas.Bool.{cases_lt, cond-false, and_left, lt-leb}
 use Rattle.strings.specs.Strings.{string_at}
 use Rattle.tree.specs.Meaning.{hash_of, code_of}
+use Rattle.tree.specs.Nodes.{join}
 use Rattle.growth.specs.Grown.{parent_at, node_at, held_at, Holds, carry}
 use Rattle.growth.proofs.Trees.{node-up, held-odd, held-here, held_below, held-above, not_root, fills_up, carry-odd, carry-even}
-use Rattle.growth.proofs.stack.add_leaf.Goals as goal
+use Rattle.growth.proofs.origin.Tree.add_leaf.Goals as goal
 
 pub loop-position-init : goal.loop-position-init
 loop-position-init g c =
     let hash = hash_of g.H.ChainHash g.H.TreeHash in
-    let o = c.args.origin.now in
+    let o = c.args.self.now.origin.now in
     let none : o.height - o.height ≡ 0 = omega arith in (
       omega arith,
       omega (arith, ap (λ j. (c.args.grown + 1) * 2 ^ j) none),
@@ -22,27 +23,29 @@ loop-position-init g c =
 
 pub overflow_sub-level : goal.overflow_sub-level
 overflow_sub-level g c =
-    not_root (hash_of g.H.ChainHash g.H.TreeHash) (code_of g.C.Code) c.args.origin.now c.args.grown c.loop-position.position c.loop-position.level c.loop-position.invariant.0 c.loop-position.invariant.1 c.requires.room c.loop-position-test.true
+    not_root (hash_of g.H.ChainHash g.H.TreeHash) (code_of g.C.Code) c.args.self.now.origin.now c.args.grown c.loop-position.position c.loop-position.level c.loop-position.invariant.0 c.loop-position.invariant.1 c.requires c.loop-position-test.true
 
 pub loop-position-preserved : goal.loop-position-preserved
 loop-position-preserved g c =
     let hash = hash_of g.H.ChainHash g.H.TreeHash in
     let code = code_of g.C.Code in
-    let o = c.args.origin.now in
+    let o = c.args.self.now.origin.now in
     let m = c.loop-position.position in
     let level = c.loop-position.level in
     let odd : m % 2 ≡ 1 = c.loop-position-test.true in
     let inv = c.loop-position.invariant in
-    let some = not_root hash code o c.args.grown m level inv.0 inv.1 c.requires.room odd in
+    let by = c.joiner-joiner.ensures in
+    let joined = c.parent-node.ensures ∙ (λ i. join (hash.pair (by.key i)) (by.masks i) (level - 1) c.string_at-left.result c.loop-position.node) in
+    let some = not_root hash code o c.args.grown m level inv.0 inv.1 c.requires odd in
     let up : level ≡ level - 1 + 1 = omega arith in
     let even : m - 1 ≡ 2 * (m / 2) = omega arith in
     let other : m ≡ 2 * (m / 2) + 1 = omega arith in
     let left : Holds hash code o c.args.grown c.args.nodes.now → c.string_at-left.result ≡ node_at hash code o (level - 1 + 1) (2 * (m / 2)) =
-    λ held. c.string_at-left.ensures ∙ inv.5 level (omega arith) ∙ held level (omega (arith, c.requires.tall)) ∙ held-odd hash code o c.args.grown m level inv.0 inv.1 odd ∙ (λ i. node_at hash code o (up i) (even i)) in
+    λ held. c.string_at-left.ensures ∙ inv.5 level (omega arith) ∙ held level (omega (arith, c.args.self.now.tall)) ∙ held-odd hash code o c.args.grown m level inv.0 inv.1 odd ∙ (λ i. node_at hash code o (up i) (even i)) in
     let right : Holds hash code o c.args.grown c.args.nodes.now → c.loop-position.node ≡ node_at hash code o (level - 1 + 1) (2 * (m / 2) + 1) = λ held. inv.2 held ∙ (λ i. node_at hash code o (up i) (other i)) in (
       omega arith,
       fills_up hash code o c.args.grown m level inv.0 inv.1 some odd,
-      λ held. c.parent-joined.ensures ∙ (λ i. parent_at hash o (level - 1) (left held i) (right held i)) ∙ sym (node-up hash code o (level - 1) (m / 2) (omega arith)),
+      λ held. joined ∙ (λ i. parent_at hash o (level - 1) (left held i) (right held i)) ∙ sym (node-up hash code o (level - 1) (m / 2) (omega arith)),
       omega arith,
       λ held a h lt.
           ⊎_elim
@@ -50,7 +53,7 @@ loop-position-preserved g c =
           (λ (less : a ≤ level). let e : a ≡ level = omega arith in ap (string_at c.put_string.new.bytes) e ∙ c.put_string.ensures.here)
           (cases_lt level a),
       λ a h. c.put_string.ensures.others a (omega arith) ∙ inv.5 a (omega arith),
-      (λ i. carry (parent_at hash o) (level - 1) (m / 2) ((c.parent-joined.ensures ∙ ap (λ l. parent_at hash o (level - 1) l c.loop-position.node) c.string_at-left.ensures) i) (c.put_string.ensures.after i))
+      (λ i. carry (parent_at hash o) (level - 1) (m / 2) ((joined ∙ ap (λ l. parent_at hash o (level - 1) l c.loop-position.node) c.string_at-left.ensures) i) (c.put_string.ensures.after i))
           ∙ sym (carry-odd (parent_at hash o) level m c.loop-position.node c.loop-position.nodes some odd)
           ∙ inv.6,
     )
@@ -59,7 +62,7 @@ pub returns : goal.returns
 returns g c =
     let hash = hash_of g.H.ChainHash g.H.TreeHash in
     let code = code_of g.C.Code in
-    let o = c.args.origin.now in
+    let o = c.args.self.now.origin.now in
     let m = c.loop-position.position in
     let level = c.loop-position.level in
     let inv = c.loop-position.invariant in

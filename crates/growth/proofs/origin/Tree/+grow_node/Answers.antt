@@ -1,9 +1,10 @@
 use Rattle.std.proofs.Common.{◌≡◌, ◌+◌, ◌*◌, ◌^◌, sym, ap, ◌∙◌, add-one, arith, rules}
 use native.Mathlib.Nat.{pow-succ'}
 use Rattle.tree.specs.Meaning.{hash_of, code_of}
+use Rattle.tree.specs.Nodes.{join}
 use Rattle.growth.specs.Grown.{parent_at}
 use Rattle.growth.proofs.Trees.{node-up}
-use Rattle.growth.proofs.leaves.+grow_node.Goals as goal
+use Rattle.growth.proofs.origin.Tree.+grow_node.Goals as goal
 
 pub grow_node-left-requires : goal.grow_node-left-requires
 grow_node-left-requires g t c κs within =
@@ -19,7 +20,9 @@ pub returns : goal.returns
 returns g t c =
     let hash = hash_of g.H.ChainHash g.H.TreeHash in
     let code = code_of g.C.Code in
-    let o = c.args.origin.now in
+    let o = c.args.self.now.origin.now in
+    let joined = c.joiner.ensures in
     c.parent.ensures
+    ∙ (λ i. join (hash.pair (joined.key i)) (joined.masks i) c.args.level c.grow_node-left.result c.grow_node-right.result)
     ∙ (λ i. parent_at hash o c.args.level (c.grow_node-left.ensures i) (c.grow_node-right.ensures i))
     ∙ sym (node-up hash code o c.args.level c.args.position (omega arith))
