@@ -1,5 +1,5 @@
 // Comparing chains.
-ghost use Rattle.std.specs.Prelude.{◌≡◌, ℕ, ◌-◌, ◌*◌, ◌<◌, ◌≤◌, length};
+ghost use Rattle.std.specs.Prelude.{◌≡◌, ℕ, ◌-◌, ◌<◌, ◌≤◌};
 ghost use Rattle.compare.specs.Search.{last_from, step_find, hidden_find, height_search, hidden_find_at, chain_search, hidden_search};
 ghost use Rattle.compare.specs.Sides.{revealed_height, our_chain, their_chain, their_one_time};
 ghost use Rattle.compare.specs.Views.{traced_of};
@@ -11,7 +11,6 @@ ghost use Rattle.tree.specs.Nodes.{raise, one_time};
 use crate::reports::four_strings;
 use crate::{Find, Sides, Subject};
 use codes::Code;
-use growth::chain_string;
 use hashes::{ChainHash, TreeHash};
 use strings::{ZERO, put_string, same, string_at};
 
@@ -29,14 +28,15 @@ fn step_both<H: ChainHash>(
 {
     let our_step = H::step(key, ours);
     let their_step = H::step(key, theirs);
-    let mut find = None;
-    if same(&our_step, &their_step) && !same(ours, theirs) {
-        find = Some(Find {
+    let find = if same(&our_step, &their_step) && !same(ours, theirs) {
+        Some(Find {
             first: chain,
             second: height as u16,
             report: four_strings(ours, theirs, &ZERO, &ZERO),
-        });
-    }
+        })
+    } else {
+        None
+    };
     Sides {
         ours: our_step,
         theirs: their_step,
@@ -120,36 +120,6 @@ pub(crate) struct Chain {
     pub hidden: Option<Find>,
 }
 
-// Compares a chain of the leaf.
-fn compare_chain<H: TreeHash, C: Code>(subject: &Subject<'_>, chain: u16) -> Chain
-    requires there { chain < C.Code.COUNT }
-    requires shown { 16 * C.Code.COUNT ≤ length subject.now.row.now }
-    ensures ours { result.ours ≡ our_chain (hash_of H.ChainHash H.TreeHash.own) (code_of C.Code) (traced_of subject.now) chain C.Code.TOP }
-    ensures theirs { result.theirs ≡ their_chain (hash_of H.ChainHash H.TreeHash.own) (code_of C.Code) (traced_of subject.now) chain C.Code.TOP }
-    ensures broken { result.broken ≡ height_search (hash_of H.ChainHash H.TreeHash.own) (code_of C.Code) (traced_of subject.now) chain }
-    ensures hidden { result.hidden ≡ hidden_find_at (hash_of H.ChainHash H.TreeHash.own) (code_of C.Code) (traced_of subject.now) chain }
-{
-    let place = chain as usize;
-    let digit = digit_of::<C>(subject.stamp, place);
-    let ours = chain_string::<H>(subject.origin, subject.leaf, place, digit);
-    let theirs = string_at(subject.row, place);
-    let hidden = hidden::<C>(&subject.entered, chain, digit, &ours);
-    let Sides { ours, theirs, find } = climb_both::<H>(
-        &subject.origin.hash_key,
-        chain,
-        digit,
-        C::TOP,
-        &ours,
-        &theirs,
-    );
-    Chain {
-        ours,
-        theirs,
-        broken: find,
-        hidden,
-    }
-}
-
 // What the chains of a leaf show: where a chain's two sides first became one, and the first string that was not revealed.
 #[derive(Clone, Copy)]
 pub(crate) struct Chains {
@@ -157,28 +127,49 @@ pub(crate) struct Chains {
     pub hidden: Option<Find>,
 }
 
-// Compares the chains of the leaf, and fills two rows with its one-time strings: the signer's and the record's.
-pub(crate) fn compare_chains<H: TreeHash, C: Code>(
-    subject: &Subject<'_>,
-    ours: &mut [u8; 4096],
-    theirs: &mut [u8; 4096],
-) -> Chains
-    requires { 16 * C.Code.COUNT ≤ length subject.now.row.now }
-    ensures ours { (k : ℕ) → k < 256 → string_at ours.new k ≡ leaf_string (hash_of H.ChainHash H.TreeHash.own) (code_of C.Code) (traced_of subject.now).origin subject.now.leaf k }
-    ensures theirs { (k : ℕ) → k < 256 → string_at theirs.new k ≡ their_one_time (hash_of H.ChainHash H.TreeHash.own) (code_of C.Code) (traced_of subject.now) k }
-    ensures broken { result.broken ≡ chain_search (hash_of H.ChainHash H.TreeHash.own) (code_of C.Code) (traced_of subject.now) }
-    ensures hidden { result.hidden ≡ hidden_search (hash_of H.ChainHash H.TreeHash.own) (code_of C.Code) (traced_of subject.now) }
-{
-    *ours = [0; 4096];
-    *theirs = [0; 4096];
-    let mut broken = None;
-    let mut hidden = None;
-    for k in 0..C::COUNT {
-        let chain = compare_chain::<H, C>(subject, k as u16);
-        put_string(ours, k, &chain.ours);
-        put_string(theirs, k, &chain.theirs);
-        broken = broken.or(chain.broken);
-        hidden = hidden.or(chain.hidden);
+impl<H: TreeHash, C: Code> Subject<'_, H, C> {
+    // Compares a chain of the leaf.
+    fn compare_chain(&self, chain: u16) -> Chain
+        requires { chain < C.Code.COUNT }
+        ensures ours { result.ours ≡ our_chain (hash_of H.ChainHash H.TreeHash.own) (code_of C.Code) (traced_of self.now) chain C.Code.TOP }
+        ensures theirs { result.theirs ≡ their_chain (hash_of H.ChainHash H.TreeHash.own) (code_of C.Code) (traced_of self.now) chain C.Code.TOP }
+        ensures broken { result.broken ≡ height_search (hash_of H.ChainHash H.TreeHash.own) (code_of C.Code) (traced_of self.now) chain }
+        ensures hidden { result.hidden ≡ hidden_find_at (hash_of H.ChainHash H.TreeHash.own) (code_of C.Code) (traced_of self.now) chain }
+    {
+        let place = chain as usize;
+        let digit = digit_of::<C>(self.stamp, place);
+        let origin = self.tree.origin;
+        let ours = origin.chain_string::<H>(self.leaf, place, digit);
+        let theirs = string_at(self.row, place);
+        let hidden = hidden::<C>(&self.entered, chain, digit, &ours);
+        let Sides { ours, theirs, find } =
+            climb_both::<H>(&origin.hash_key, chain, digit, C::TOP, &ours, &theirs);
+        Chain {
+            ours,
+            theirs,
+            broken: find,
+            hidden,
+        }
     }
-    Chains { broken, hidden }
+
+    // Compares the chains of the leaf, and fills two rows with its one-time strings: the signer's and the record's.
+    pub(crate) fn compare_chains(&self, ours: &mut [u8; 4096], theirs: &mut [u8; 4096]) -> Chains
+        ensures ours { (k : ℕ) → k < 256 → string_at ours.new k ≡ leaf_string (hash_of H.ChainHash H.TreeHash.own) (code_of C.Code) (traced_of self.now).origin self.now.leaf k }
+        ensures theirs { (k : ℕ) → k < 256 → string_at theirs.new k ≡ their_one_time (hash_of H.ChainHash H.TreeHash.own) (code_of C.Code) (traced_of self.now) k }
+        ensures broken { result.broken ≡ chain_search (hash_of H.ChainHash H.TreeHash.own) (code_of C.Code) (traced_of self.now) }
+        ensures hidden { result.hidden ≡ hidden_search (hash_of H.ChainHash H.TreeHash.own) (code_of C.Code) (traced_of self.now) }
+    {
+        *ours = [0; 4096];
+        *theirs = [0; 4096];
+        let mut broken = None;
+        let mut hidden = None;
+        for k in 0..C::COUNT {
+            let chain = self.compare_chain(k as u16);
+            put_string(ours, k, &chain.ours);
+            put_string(theirs, k, &chain.theirs);
+            broken = broken.or(chain.broken);
+            hidden = hidden.or(chain.hidden);
+        }
+        Chains { broken, hidden }
+    }
 }

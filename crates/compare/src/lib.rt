@@ -10,7 +10,7 @@ mod sides;
 mod subject;
 mod verdict;
 
-pub use comparing::{Comparison, compare};
+pub use comparing::Comparison;
 use sides::Sides;
 pub use subject::Subject;
 pub use verdict::{Find, Verdict};

@@ -8,6 +8,7 @@ use crate::reports::four_strings;
 use crate::{Find, Sides};
 use hashes::TreeHash;
 use strings::{mask, put_string, same, string_at};
+use tree::nodes::Joiner;
 
 // Two children of one parent.
 #[derive(Clone, Copy)]
@@ -18,36 +19,36 @@ pub(crate) struct Children {
 
 // The parent at a level of two children on both sides, and whether it hides that they differ.
 pub(crate) fn join_both<H: TreeHash>(
-    key: &[u8; 16],
-    masks: &[u8],
+    joiner: &Joiner<'_, H>,
     level: usize,
     position: u16,
     ours: &Children,
     theirs: &Children,
 ) -> Sides
-    requires masked { 32 * level + 32 ≤ length masks.now }
+    requires masked { 32 * level + 32 ≤ length joiner.now.masks.now }
     requires few { level < 16 }
-    ensures ours { result.ours ≡ join (H.TreeHash.pairs key.now) masks.now level ours.now.left ours.now.right }
-    ensures theirs { result.theirs ≡ join (H.TreeHash.pairs key.now) masks.now level theirs.now.left theirs.now.right }
-    ensures find { result.find ≡ child_find (H.TreeHash.pairs key.now) masks.now level position ours.now.left ours.now.right theirs.now.left theirs.now.right }
+    ensures ours { result.ours ≡ join (H.TreeHash.pairs joiner.now.key.now) joiner.now.masks.now level ours.now.left ours.now.right }
+    ensures theirs { result.theirs ≡ join (H.TreeHash.pairs joiner.now.key.now) joiner.now.masks.now level theirs.now.left theirs.now.right }
+    ensures find { result.find ≡ child_find (H.TreeHash.pairs joiner.now.key.now) joiner.now.masks.now level position ours.now.left ours.now.right theirs.now.left theirs.now.right }
 {
-    let left_mask = string_at(masks, 2 * level);
-    let right_mask = string_at(masks, 2 * level + 1);
+    let left_mask = string_at(joiner.masks, 2 * level);
+    let right_mask = string_at(joiner.masks, 2 * level + 1);
     let our_left = mask(&ours.left, &left_mask);
     let our_right = mask(&ours.right, &right_mask);
     let their_left = mask(&theirs.left, &left_mask);
     let their_right = mask(&theirs.right, &right_mask);
-    let our_parent = H::pair(key, &our_left, &our_right);
-    let their_parent = H::pair(key, &their_left, &their_right);
+    let our_parent = H::pair(joiner.key, &our_left, &our_right);
+    let their_parent = H::pair(joiner.key, &their_left, &their_right);
     let alike = same(&our_left, &their_left) && same(&our_right, &their_right);
-    let mut find = None;
-    if same(&our_parent, &their_parent) && !alike {
-        find = Some(Find {
+    let find = if same(&our_parent, &their_parent) && !alike {
+        Some(Find {
             first: level as u16,
             second: position,
             report: four_strings(&our_left, &our_right, &their_left, &their_right),
-        });
-    }
+        })
+    } else {
+        None
+    };
     Sides {
         ours: our_parent,
         theirs: their_parent,
@@ -69,35 +70,27 @@ fn children_at(row: &[u8], p: usize) -> Children
 // Writes the `n` parents at `level` of the first 2n strings of both rows over their first n strings, and finds the first of
 // them that hides that its children differ; the first parent stands at position `first`.
 fn join_level<H: TreeHash>(
-    key: &[u8; 16],
-    masks: &[u8],
+    joiner: &Joiner<'_, H>,
     level: usize,
     first: u16,
     ours: &mut [u8],
     theirs: &mut [u8],
     n: usize,
 ) -> Option<Find>
-    requires masked { 32 * level + 32 ≤ length masks.now }
+    requires masked { 32 * level + 32 ≤ length joiner.now.masks.now }
     requires few { level < 16 }
     requires ours { 32 * n ≤ length ours.old }
     requires theirs { 32 * n ≤ length theirs.old }
     requires places { first + n ≤ 2 ^ 16 }
-    ensures ours { (k : ℕ) → k < n → string_at ours.new k ≡ join (H.TreeHash.pairs key.now) masks.now level (string_at ours.old (2 * k)) (string_at ours.old (2 * k + 1)) }
-    ensures theirs { (k : ℕ) → k < n → string_at theirs.new k ≡ join (H.TreeHash.pairs key.now) masks.now level (string_at theirs.old (2 * k)) (string_at theirs.old (2 * k + 1)) }
-    ensures find { result ≡ first_from (λ p. child_find (H.TreeHash.pairs key.now) masks.now level (first + p) (string_at ours.old (2 * p)) (string_at ours.old (2 * p + 1)) (string_at theirs.old (2 * p)) (string_at theirs.old (2 * p + 1))) 0 n }
+    ensures ours { (k : ℕ) → k < n → string_at ours.new k ≡ join (H.TreeHash.pairs joiner.now.key.now) joiner.now.masks.now level (string_at ours.old (2 * k)) (string_at ours.old (2 * k + 1)) }
+    ensures theirs { (k : ℕ) → k < n → string_at theirs.new k ≡ join (H.TreeHash.pairs joiner.now.key.now) joiner.now.masks.now level (string_at theirs.old (2 * k)) (string_at theirs.old (2 * k + 1)) }
+    ensures find { result ≡ first_from (λ p. child_find (H.TreeHash.pairs joiner.now.key.now) joiner.now.masks.now level (first + p) (string_at ours.old (2 * p)) (string_at ours.old (2 * p + 1)) (string_at theirs.old (2 * p)) (string_at theirs.old (2 * p + 1))) 0 n }
 {
     let mut found = None;
     for p in 0..n {
         let our_children = children_at(ours, p);
         let their_children = children_at(theirs, p);
-        let above = join_both::<H>(
-            key,
-            masks,
-            level,
-            first + p as u16,
-            &our_children,
-            &their_children,
-        );
+        let above = join_both(joiner, level, first + p as u16, &our_children, &their_children);
         put_string(ours, p, &above.ours);
         put_string(theirs, p, &above.theirs);
         found = found.or(above.find);
@@ -108,37 +101,26 @@ fn join_level<H: TreeHash>(
 // The node at level `height` over the first 2^levels strings of both rows, the one-time strings of leaf number `leaf`; and
 // the first node below it, or itself, that hides that its children differ. The rows are used up.
 pub(crate) fn fold_both<H: TreeHash>(
-    key: &[u8; 16],
-    masks: &[u8],
+    joiner: &Joiner<'_, H>,
     height: usize,
     levels: usize,
     leaf: u16,
     ours: &mut [u8],
     theirs: &mut [u8],
 ) -> Sides
-    requires masked { 32 * (height + levels) ≤ length masks.now }
+    requires masked { 32 * (height + levels) ≤ length joiner.now.masks.now }
     requires few { levels ≤ 8 }
     requires tall { height ≤ 8 }
     requires there { leaf < 2 ^ height }
     requires ours { 16 * 2 ^ levels ≤ length ours.old }
     requires theirs { 16 * 2 ^ levels ≤ length theirs.old }
-    ensures ours { result.ours ≡ node (join (H.TreeHash.pairs key.now) masks.now) (string_at ours.old) height levels 0 }
-    ensures theirs { result.theirs ≡ node (join (H.TreeHash.pairs key.now) masks.now) (string_at theirs.old) height levels 0 }
-    ensures find { result.find ≡ first_from (depth_search (H.TreeHash.pairs key.now) masks.now height leaf levels (string_at ours.old) (string_at theirs.old)) 0 levels }
+    ensures ours { result.ours ≡ node (join (H.TreeHash.pairs joiner.now.key.now) joiner.now.masks.now) (string_at ours.old) height levels 0 }
+    ensures theirs { result.theirs ≡ node (join (H.TreeHash.pairs joiner.now.key.now) joiner.now.masks.now) (string_at theirs.old) height levels 0 }
+    ensures find { result.find ≡ first_from (depth_search (H.TreeHash.pairs joiner.now.key.now) joiner.now.masks.now height leaf levels (string_at ours.old) (string_at theirs.old)) 0 levels }
 {
     let mut found = None;
-    let mut left = levels;
-    while left > 0 {
-        left -= 1;
-        let find = join_level::<H>(
-            key,
-            masks,
-            height + left,
-            leaf << left,
-            ours,
-            theirs,
-            1 << left,
-        );
+    for left in (0..levels).rev() {
+        let find = join_level(joiner, height + left, leaf << left, ours, theirs, 1 << left);
         found = find.or(found);
     }
     let our_node = string_at(ours, 0);

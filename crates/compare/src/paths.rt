@@ -1,5 +1,5 @@
 // Comparing the way from the leaf to the root.
-ghost use Rattle.std.specs.Prelude.{◌≡◌, ℕ, ◌+◌, ◌-◌, ◌*◌, ◌/◌, ◌%◌, ◌^◌, ◌<◌, ◌≤◌, length, if◌then◌else◌, nat_eq};
+ghost use Rattle.std.specs.Prelude.{◌≡◌, ◌+◌, ◌-◌, ◌/◌, ◌%◌, ◌^◌, ◌<◌, if◌then◌else◌, nat_eq};
 ghost use Rattle.compare.specs.Search.{first_from, node_find_at, level_search};
 ghost use Rattle.compare.specs.Sides.{our_node, their_node};
 ghost use Rattle.compare.specs.Views.{traced_of};
@@ -8,7 +8,7 @@ ghost use Rattle.tree.specs.Meaning.{hash_of, code_of};
 use crate::pairs::{Children, join_both};
 use crate::{Sides, Subject};
 use codes::Code;
-use growth::{grow_node, sibling};
+use growth::sibling;
 use hashes::TreeHash;
 use strings::string_at;
 
@@ -30,73 +30,59 @@ fn children_of(position: u16, at: &[u8; 16], sibling: &[u8; 16]) -> Children
     }
 }
 
-// One level up on both sides: the parent at `level` of the node at `position` on the way up from the leaf, and of its
-// sibling. The work buffer is used up.
-fn climb_one<H: TreeHash, C: Code>(
-    subject: &Subject<'_>,
-    level: usize,
-    position: u16,
-    ours: &[u8; 16],
-    theirs: &[u8; 16],
-    work: &mut [u8; 4096],
-) -> Sides
-    requires tall { subject.now.origin.now.height ≤ 8 }
-    requires there { subject.now.leaf < 2 ^ subject.now.origin.now.height }
-    requires row { 16 * (C.Code.COUNT + subject.now.origin.now.height) ≤ length subject.now.row.now }
-    requires under { level < subject.now.origin.now.height }
-    requires place { position ≡ subject.now.leaf / 2 ^ (subject.now.origin.now.height - (level + 1)) }
-    requires ours { ours.now ≡ our_node (hash_of H.ChainHash H.TreeHash.own) (code_of C.Code) (traced_of subject.now) (level + 1) position }
-    requires theirs { theirs.now ≡ their_node (hash_of H.ChainHash H.TreeHash.own) (code_of C.Code) (traced_of subject.now) (level + 1) position }
-    ensures ours { result.ours ≡ our_node (hash_of H.ChainHash H.TreeHash.own) (code_of C.Code) (traced_of subject.now) level (position / 2) }
-    ensures theirs { result.theirs ≡ their_node (hash_of H.ChainHash H.TreeHash.own) (code_of C.Code) (traced_of subject.now) level (position / 2) }
-    ensures find { result.find ≡ node_find_at (hash_of H.ChainHash H.TreeHash.own) (code_of C.Code) (traced_of subject.now) level (position / 2) }
-{
-    let our_sibling = grow_node::<H, C>(subject.origin, level + 1, sibling(position), work);
-    let above = subject.origin.height as usize - level - 1;
-    let their_sibling = string_at(subject.row, C::COUNT + above);
-    let our_children = children_of(position, ours, &our_sibling);
-    let their_children = children_of(position, theirs, &their_sibling);
-    join_both::<H>(
-        &subject.origin.hash_key,
-        &subject.origin.masks,
-        level,
-        position / 2,
-        &our_children,
-        &their_children,
-    )
-}
-
-// The root on both sides, from the leaf's node on both, and the first node on the way that hides that its children differ. The
-// work buffer is used up.
-pub(crate) fn climb_to_root<H: TreeHash, C: Code>(
-    subject: &Subject<'_>,
-    leaf_node: &Sides,
-    work: &mut [u8; 4096],
-) -> Sides
-    requires tall { subject.now.origin.now.height ≤ 8 }
-    requires there { subject.now.leaf < 2 ^ subject.now.origin.now.height }
-    requires row { 16 * (C.Code.COUNT + subject.now.origin.now.height) ≤ length subject.now.row.now }
-    requires ours { leaf_node.now.ours ≡ our_node (hash_of H.ChainHash H.TreeHash.own) (code_of C.Code) (traced_of subject.now) subject.now.origin.now.height subject.now.leaf }
-    requires theirs { leaf_node.now.theirs ≡ their_node (hash_of H.ChainHash H.TreeHash.own) (code_of C.Code) (traced_of subject.now) subject.now.origin.now.height subject.now.leaf }
-    ensures ours { result.ours ≡ our_node (hash_of H.ChainHash H.TreeHash.own) (code_of C.Code) (traced_of subject.now) 0 0 }
-    ensures theirs { result.theirs ≡ their_node (hash_of H.ChainHash H.TreeHash.own) (code_of C.Code) (traced_of subject.now) 0 0 }
-    ensures find { result.find ≡ first_from (level_search (hash_of H.ChainHash H.TreeHash.own) (code_of C.Code) (traced_of subject.now)) 0 subject.now.origin.now.height }
-{
-    let height = subject.origin.height as usize;
-    let mut ours = leaf_node.ours;
-    let mut theirs = leaf_node.theirs;
-    let mut found = None;
-    let mut position = subject.leaf;
-    for e in 0..height {
-        let above = climb_one::<H, C>(subject, height - e - 1, position, &ours, &theirs, work);
-        ours = above.ours;
-        theirs = above.theirs;
-        found = above.find.or(found);
-        position /= 2;
+impl<H: TreeHash, C: Code> Subject<'_, H, C> {
+    // One level up on both sides: the parent at `level` of the node at `position` on the way up from the leaf, and of its
+    // sibling. The work buffer is used up.
+    fn climb_one(
+        &self,
+        level: usize,
+        position: u16,
+        ours: &[u8; 16],
+        theirs: &[u8; 16],
+        work: &mut [u8; 4096],
+    ) -> Sides
+        requires under { level < self.now.tree.origin.now.height }
+        requires place { position ≡ self.now.leaf / 2 ^ (self.now.tree.origin.now.height - (level + 1)) }
+        requires ours { ours.now ≡ our_node (hash_of H.ChainHash H.TreeHash.own) (code_of C.Code) (traced_of self.now) (level + 1) position }
+        requires theirs { theirs.now ≡ their_node (hash_of H.ChainHash H.TreeHash.own) (code_of C.Code) (traced_of self.now) (level + 1) position }
+        ensures ours { result.ours ≡ our_node (hash_of H.ChainHash H.TreeHash.own) (code_of C.Code) (traced_of self.now) level (position / 2) }
+        ensures theirs { result.theirs ≡ their_node (hash_of H.ChainHash H.TreeHash.own) (code_of C.Code) (traced_of self.now) level (position / 2) }
+        ensures find { result.find ≡ node_find_at (hash_of H.ChainHash H.TreeHash.own) (code_of C.Code) (traced_of self.now) level (position / 2) }
+    {
+        let our_sibling = self.tree.grow_node(level + 1, sibling(position), work);
+        let above = self.tree.origin.height as usize - level - 1;
+        let their_sibling = string_at(self.row, C::COUNT + above);
+        let our_children = children_of(position, ours, &our_sibling);
+        let their_children = children_of(position, theirs, &their_sibling);
+        let joiner = self.tree.origin.joiner::<H>();
+        join_both(&joiner, level, position / 2, &our_children, &their_children)
     }
-    Sides {
-        ours,
-        theirs,
-        find: found,
+
+    // The root on both sides, from the leaf's node on both, and the first node on the way that hides that its children
+    // differ. The work buffer is used up.
+    pub(crate) fn climb_to_root(&self, leaf_node: &Sides, work: &mut [u8; 4096]) -> Sides
+        requires ours { leaf_node.now.ours ≡ our_node (hash_of H.ChainHash H.TreeHash.own) (code_of C.Code) (traced_of self.now) self.now.tree.origin.now.height self.now.leaf }
+        requires theirs { leaf_node.now.theirs ≡ their_node (hash_of H.ChainHash H.TreeHash.own) (code_of C.Code) (traced_of self.now) self.now.tree.origin.now.height self.now.leaf }
+        ensures ours { result.ours ≡ our_node (hash_of H.ChainHash H.TreeHash.own) (code_of C.Code) (traced_of self.now) 0 0 }
+        ensures theirs { result.theirs ≡ their_node (hash_of H.ChainHash H.TreeHash.own) (code_of C.Code) (traced_of self.now) 0 0 }
+        ensures find { result.find ≡ first_from (level_search (hash_of H.ChainHash H.TreeHash.own) (code_of C.Code) (traced_of self.now)) 0 self.now.tree.origin.now.height }
+    {
+        let height = self.tree.origin.height as usize;
+        let mut ours = leaf_node.ours;
+        let mut theirs = leaf_node.theirs;
+        let mut found = None;
+        let mut position = self.leaf;
+        for e in 0..height {
+            let above = self.climb_one(height - e - 1, position, &ours, &theirs, work);
+            ours = above.ours;
+            theirs = above.theirs;
+            found = above.find.or(found);
+            position /= 2;
+        }
+        Sides {
+            ours,
+            theirs,
+            find: found,
+        }
     }
 }

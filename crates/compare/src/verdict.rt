@@ -42,9 +42,7 @@ impl Verdict {
     {
         match self {
             Verdict::Ours => [0; 64],
-            Verdict::Node(find) => find.report,
-            Verdict::Chain(find) => find.report,
-            Verdict::Unrevealed(find) => find.report,
+            Verdict::Node(find) | Verdict::Chain(find) | Verdict::Unrevealed(find) => find.report,
         }
     }
 }

@@ -8,8 +8,9 @@ use crate::release::read_release;
 use crate::{OpenedKey, Refusal};
 use codes::Code;
 use hashes::TreeHash;
+use std::marker::PhantomData;
 use strings::{same, string_at};
-use tree::roots::rebuild_root;
+use tree::nodes::Joiner;
 
 // The leaf number of a release record that is good for the stamp under the opened key.
 pub fn verify<H: TreeHash, C: Code>(
@@ -21,14 +22,12 @@ pub fn verify<H: TreeHash, C: Code>(
 {
     let release = read_release::<H, C>(key, bytes)?;
     let hash_key = string_at(key.hash_key(), 0);
-    let root = rebuild_root::<H, C>(
-        &hash_key,
-        key.masks(),
-        key.height as usize,
-        release.leaf,
-        stamp,
-        release.row,
-    );
+    let joiner: Joiner<'_, H> = Joiner {
+        key: &hash_key,
+        masks: key.masks(),
+        hash: PhantomData,
+    };
+    let root = joiner.rebuild_root::<C>(key.height as usize, release.leaf, stamp, release.row);
     let wanted = string_at(key.root(), 0);
     if !same(&root, &wanted) {
         return Err(Refusal::Root);

@@ -11,7 +11,7 @@ use Rattle.compare.proofs.pairs.fold_both.Goals as goal
 
 pub loop-left-init : goal.loop-left-init
 loop-left-init g c =
-    let parent = join (g.H.TreeHash.pairs c.args.key.now) c.args.masks.now in
+    let parent = join (g.H.TreeHash.pairs c.args.joiner.now.key.now) c.args.joiner.now.masks.now in
     let none : 0 ≡ c.args.levels - c.args.levels = omega arith in (
       omega arith,
       λ k h. fold-none parent (string_at c.args.ours.now) (c.args.height + c.args.levels) c.args.levels k,
@@ -40,8 +40,8 @@ join_level-find-requires g c =
 
 pub loop-left-preserved : goal.loop-left-preserved
 loop-left-preserved g c =
-    let pair = g.H.TreeHash.pairs c.args.key.now in
-    let masks = c.args.masks.now in
+    let pair = g.H.TreeHash.pairs c.args.joiner.now.key.now in
+    let masks = c.args.joiner.now.masks.now in
     let ours : ℕ → List ℕ = string_at c.args.ours.now in
     let theirs : ℕ → List ℕ = string_at c.args.theirs.now in
     let h = c.args.height in
@@ -83,11 +83,11 @@ loop-left-preserved g c =
 
 pub returns : goal.returns
 returns g c =
-    let parent = join (g.H.TreeHash.pairs c.args.key.now) c.args.masks.now in
+    let parent = join (g.H.TreeHash.pairs c.args.joiner.now.key.now) c.args.joiner.now.masks.now in
     let none : c.loop-left.left ≡ 0 = omega (arith, c.loop-left-test.false) in
     let low : c.args.height + c.loop-left.left ≡ c.args.height = omega arith in
     let all : c.args.levels - c.loop-left.left ≡ c.args.levels = omega arith in
-    let depth : ℕ → Option Find = depth_search (g.H.TreeHash.pairs c.args.key.now) c.args.masks.now c.args.height c.args.leaf c.args.levels (string_at c.args.ours.now) (string_at c.args.theirs.now) in
+    let depth : ℕ → Option Find = depth_search (g.H.TreeHash.pairs c.args.joiner.now.key.now) c.args.joiner.now.masks.now c.args.height c.args.leaf c.args.levels (string_at c.args.ours.now) (string_at c.args.theirs.now) in
     let inv = c.loop-left.invariant in
     record {
       ours = c.string_at-our_node.ensures ∙ inv.1 0 (pow_pos c.loop-left.left) ∙ (λ i. node parent (string_at c.args.ours.now) (low i) (all i) 0);

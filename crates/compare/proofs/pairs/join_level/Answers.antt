@@ -13,8 +13,8 @@ loop-p-init g c = (((λ k h. absurd (omega arith)), (λ k h. refl)), ((λ k h. a
 
 pub loop-p-preserved : goal.loop-p-preserved
 loop-p-preserved g c =
-    let pair = g.H.TreeHash.pairs c.args.key.now in
-    let masks = c.args.masks.now in
+    let pair = g.H.TreeHash.pairs c.args.joiner.now.key.now in
+    let masks = c.args.joiner.now.masks.now in
     let level = c.args.level in
     let p = c.loop-p.p in
     let inv = c.loop-p.invariant in

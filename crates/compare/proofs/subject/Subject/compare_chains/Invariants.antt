@@ -5,14 +5,14 @@ use Rattle.tree.specs.Nodes.{one_time}
 use Rattle.growth.specs.Grown.{secret}
 use Rattle.compare.specs.Search.{first_from, height_search, hidden_find_at}
 use Rattle.compare.specs.Views.{traced_of}
-use Rattle.compare.proofs.chains.compare_chains.Given as goal
+use Rattle.compare.proofs.subject.Subject.compare_chains.Given as goal
 
 -- so far the rows are those of a leaf with k chains, and the finds are those of its first k chains
 abbrev pub invariant-loop-k : goal.invariant-loop-k
 invariant-loop-k g l =
     let hash = hash_of g.H.ChainHash g.H.TreeHash in
     let code = code_of g.C.Code in
-    let t = traced_of l.subject in
+    let t = traced_of l.self in
     let step = hash.step t.origin.hash_key in
     (length l.ours ≡ 4096)
     × (length l.theirs ≡ 4096)

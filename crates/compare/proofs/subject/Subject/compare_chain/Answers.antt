@@ -7,7 +7,7 @@ use Rattle.compare.specs.Search.{last_from, step_find, hidden_find, chain_find_a
 use Rattle.compare.specs.Sides.{revealed_height, our_chain, their_chain}
 use Rattle.compare.specs.Views.{traced_of}
 use Rattle.compare.proofs.Firsts.{last-same}
-use Rattle.compare.proofs.chains.compare_chain.Goals as goal
+use Rattle.compare.proofs.subject.Subject.compare_chain.Goals as goal
 
 pub climb_both-find-requires : goal.climb_both-find-requires
 climb_both-find-requires g c = omega (arith, c.digit_of-digit.ensures.within, c.TOP.ensures)
@@ -16,7 +16,7 @@ pub returns : goal.returns
 returns g c =
     let hash = hash_of g.H.ChainHash g.H.TreeHash in
     let code = code_of g.C.Code in
-    let t = traced_of c.args.subject.now in
+    let t = traced_of c.args.self.now in
     let step = hash.step t.origin.hash_key in
     let k = c.args.chain in
     let d = code.digit t.stamp k in

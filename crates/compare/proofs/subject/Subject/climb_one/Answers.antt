@@ -2,6 +2,7 @@ use Rattle.std.proofs.Common.{◌≡◌, ◌+◌, ◌-◌, ◌/◌, ◌^◌, sym
 use Rattle.std.proofs.lemmas.Nat.{shr-shr}
 use Rattle.strings.specs.Strings.{string_at}
 use Rattle.tree.specs.Meaning.{hash_of, code_of}
+use Rattle.tree.specs.Nodes.{join}
 use Rattle.growth.specs.Grown.{parent_at}
 use Rattle.growth.specs.Shown.{sibling_of}
 use Rattle.growth.proofs.Paths.{sibling-below}
@@ -11,16 +12,15 @@ use Rattle.compare.specs.Views.{traced_of}
 use Rattle.compare.proofs.Agreeing.{their-sibling}
 use Rattle.compare.proofs.Beside.{left-child, right_child}
 use Rattle.compare.proofs.Nodes.{our-parent, their-parent}
-use Rattle.compare.proofs.paths.climb_one.Goals as goal
+use Rattle.compare.proofs.subject.Subject.climb_one.Goals as goal
 
 pub grow_node-our_sibling-requires : goal.grow_node-our_sibling-requires
 grow_node-our_sibling-requires g c =
-    let h = c.args.subject.now.origin.now.height in
+    let h = c.args.self.now.tree.origin.now.height in
     let d = h - (c.args.level + 1) in
     let up : h - d ≡ c.args.level + 1 = omega (arith, c.requires.under) in
-    let below = sibling-below h d c.args.subject.now.leaf c.requires.there (omega (arith, c.requires.under)) in
+    let below = sibling-below h d c.args.self.now.leaf c.args.self.now.there (omega (arith, c.requires.under)) in
     record {
-      tall = c.requires.tall;
       within = omega (arith, c.requires.under);
       there = omega (arith, c.sibling.ensures, ap sibling_of c.requires.place, below, ap (λ n. 2 ^ n) up);
     }
@@ -29,7 +29,7 @@ pub returns : goal.returns
 returns g c =
     let hash = hash_of g.H.ChainHash g.H.TreeHash in
     let code = code_of g.C.Code in
-    let t = traced_of c.args.subject.now in
+    let t = traced_of c.args.self.now in
     let h = t.origin.height in
     let a = c.args.level in
     let position = c.args.position in
@@ -49,8 +49,13 @@ returns g c =
     let r' = c.children_of-their_children.ensures.right ∙ right_child theirs position _ _ c.requires.theirs their-beside in
     let half : b ≡ t.leaf / 2 ^ (h - a) = ap (λ n. n / 2) c.requires.place ∙ shr-shr t.leaf (h - (a + 1)) 1 ∙ ap (λ n. t.leaf / 2 ^ n) (omega arith) in
     let near : b / 2 ^ (a - h) ≡ t.leaf / 2 ^ (h - a) = ap (λ n. b / 2 ^ n) (let e : a - h ≡ 0 = omega arith in e) ∙ omega arith in
+    let by = c.joiner-joiner.ensures in
+    let ol = c.children_of-our_children.result.left in
+    let or = c.children_of-our_children.result.right in
+    let tl = c.children_of-their_children.result.left in
+    let tr = c.children_of-their_children.result.right in
     record {
-      ours = c.join_both.ensures.ours ∙ (λ i. parent_at hash t.origin a (l i) (r i)) ∙ sym (our-parent hash code t a b (omega arith));
-      theirs = c.join_both.ensures.theirs ∙ (λ i. parent_at hash t.origin a (l' i) (r' i)) ∙ sym (their-parent hash code t a b (omega arith) near);
-      find = c.join_both.ensures.find ∙ (λ i. child_find (hash.pair t.origin.hash_key) t.origin.masks a b (l i) (r i) (l' i) (r' i));
+      ours = c.join_both.ensures.ours ∙ (λ i. join (hash.pair (by.key i)) (by.masks i) a ol or) ∙ (λ i. parent_at hash t.origin a (l i) (r i)) ∙ sym (our-parent hash code t a b (omega arith));
+      theirs = c.join_both.ensures.theirs ∙ (λ i. join (hash.pair (by.key i)) (by.masks i) a tl tr) ∙ (λ i. parent_at hash t.origin a (l' i) (r' i)) ∙ sym (their-parent hash code t a b (omega arith) near);
+      find = c.join_both.ensures.find ∙ (λ i. child_find (hash.pair (by.key i)) (by.masks i) a b ol or tl tr) ∙ (λ i. child_find (hash.pair t.origin.hash_key) t.origin.masks a b (l i) (r i) (l' i) (r' i));
     }

@@ -3,13 +3,13 @@ use Rattle.tree.specs.Meaning.{hash_of, code_of}
 use Rattle.compare.specs.Search.{first_from, level_search}
 use Rattle.compare.specs.Sides.{our_node, their_node}
 use Rattle.compare.specs.Views.{traced_of}
-use Rattle.compare.proofs.paths.climb_to_root.Given as goal
+use Rattle.compare.proofs.subject.Subject.climb_to_root.Given as goal
 
 abbrev pub invariant-loop-e : goal.invariant-loop-e
 invariant-loop-e g l =
     let hash = hash_of g.H.ChainHash g.H.TreeHash in
     let code = code_of g.C.Code in
-    let t = traced_of l.subject in
+    let t = traced_of l.self in
     let h = t.origin.height in
     (l.position ≡ t.leaf / 2 ^ l.e)
     × (l.ours ≡ our_node hash code t (h - l.e) l.position)

@@ -2,7 +2,7 @@ use Rattle.std.proofs.Common.{◌≡◌, ℕ, ◌+◌, ◌-◌, ◌*◌, ◌^◌
 use Rattle.std.specs.Option.{option_or}
 use Rattle.strings.specs.Strings.{string_at}
 use Rattle.tree.specs.Meaning.{hash_of, code_of}
-use Rattle.tree.specs.Nodes.{node}
+use Rattle.tree.specs.Nodes.{join, node}
 use Rattle.growth.specs.Grown.{parent_at}
 use Rattle.compare.specs.Found.{Found}
 use Rattle.compare.specs.Search.{first_from, depth_search, chosen, found}
@@ -11,8 +11,8 @@ use Rattle.compare.specs.Views.{traced_of}
 use Rattle.compare.proofs.Leaves.{our-node, their-node, nodes-all}
 use Rattle.compare.proofs.Nodes.{their-root}
 use Rattle.compare.proofs.Searches.{found_first}
-use Rattle.compare.proofs.comparing.compare.Given as given
-use Rattle.compare.proofs.comparing.compare.Goals as goal
+use Rattle.compare.proofs.subject.Subject.compare.Given as given
+use Rattle.compare.proofs.subject.Subject.compare.Goals as goal
 
 -- a leaf has at most 256 strings
 room : (g : given.Over) → 2 ^ g.C.Code.LEVELS ≤ 256
@@ -20,15 +20,15 @@ room g = pow_mono {i = g.C.Code.LEVELS} {j = 8} g.met.C.Code.level_range.1
 
 pub fold_both-leaf_node-requires : goal.fold_both-leaf_node-requires
 fold_both-leaf_node-requires g c =
-    let is = c.LEVELS.ensures in
+    let is = c.LEVELS-levels.ensures in
     let few = g.met.C.Code.level_range in
     let size = ap (λ n. 2 ^ n) is in
     let most = room g in
     record {
-      masked = omega (arith, c.requires.tall);
+      masked = omega (arith, c.args.self.now.tree.tall, c.joiner-joiner.ensures.long);
       few = omega arith;
-      tall = c.requires.tall;
-      there = c.requires.there;
+      tall = c.args.self.now.tree.tall;
+      there = c.args.self.now.there;
       ours = omega arith;
       theirs = omega arith;
     }
@@ -37,27 +37,27 @@ pub climb_to_root-root-requires : goal.climb_to_root-root-requires
 climb_to_root-root-requires g c =
     let hash = hash_of g.H.ChainHash g.H.TreeHash in
     let code = code_of g.C.Code in
-    let t = traced_of c.args.subject.now in
+    let t = traced_of c.args.self.now in
     let h = t.origin.height in
     let most = room g in
+    let by = c.joiner-joiner.ensures in
     let ours : ℕ → List ℕ = string_at c.compare_chains-chains.new.ours in
     let theirs : ℕ → List ℕ = string_at c.compare_chains-chains.new.theirs in
     let our-row = λ (k : ℕ) (lt : k < 2 ^ code.levels). c.compare_chains-chains.ensures.ours k (omega arith) in
     let their-row = λ (k : ℕ) (lt : k < 2 ^ code.levels). c.compare_chains-chains.ensures.theirs k (omega arith) in
     let top : h ≡ h + 0 = omega arith in
-    let deep : c.LEVELS.result ≡ code.levels - 0 = c.LEVELS.ensures ∙ omega arith in
+    let deep : c.LEVELS-levels.result ≡ code.levels - 0 = c.LEVELS-levels.ensures ∙ omega arith in
     let here : t.leaf * 2 ^ 0 + 0 ≡ t.leaf = omega arith in
     record {
-      tall = c.requires.tall;
-      there = c.requires.there;
-      row = c.requires.row;
       ours =
           c.fold_both-leaf_node.ensures.ours
+          ∙ (λ i. node (join (hash.pair (by.key i)) (by.masks i)) ours h c.LEVELS-levels.result 0)
           ∙ (λ i. node (parent_at hash t.origin) ours (top i) (deep i) 0)
           ∙ our-node hash code t ours theirs our-row their-row 0 0 (omega arith) (omega arith)
           ∙ (λ i. our_node hash code t (sym top i) (here i));
       theirs =
           c.fold_both-leaf_node.ensures.theirs
+          ∙ (λ i. node (join (hash.pair (by.key i)) (by.masks i)) theirs h c.LEVELS-levels.result 0)
           ∙ (λ i. node (parent_at hash t.origin) theirs (top i) (deep i) 0)
           ∙ their-node hash code t ours theirs our-row their-row 0 0 (omega arith) (omega arith)
           ∙ (λ i. their_node hash code t (sym top i) (here i));
@@ -68,8 +68,9 @@ unfolding found
 returns g c =
     let hash = hash_of g.H.ChainHash g.H.TreeHash in
     let code = code_of g.C.Code in
-    let t = traced_of c.args.subject.now in
+    let t = traced_of c.args.self.now in
     let most = room g in
+    let by = c.joiner-joiner.ensures in
     let ours : ℕ → List ℕ = string_at c.compare_chains-chains.new.ours in
     let theirs : ℕ → List ℕ = string_at c.compare_chains-chains.new.theirs in
     let our-row = λ (k : ℕ) (lt : k < 2 ^ code.levels). c.compare_chains-chains.ensures.ours k (omega arith) in
@@ -77,11 +78,11 @@ returns g c =
     let depth = λ (n : ℕ). first_from (depth_search (hash.pair t.origin.hash_key) t.origin.masks t.origin.height t.leaf n ours theirs) 0 n in
     let nodes =
     c.or.ensures
-    ∙ (λ i. option_or (c.climb_to_root-root.ensures.find i) ((c.fold_both-leaf_node.ensures.find ∙ ap depth c.LEVELS.ensures) i))
+    ∙ (λ i. option_or (c.climb_to_root-root.ensures.find i) ((c.fold_both-leaf_node.ensures.find ∙ (λ j. first_from (depth_search (hash.pair (by.key j)) (by.masks j) t.origin.height t.leaf c.LEVELS-levels.result ours theirs) 0 c.LEVELS-levels.result) ∙ ap depth c.LEVELS-levels.ensures) i))
     ∙ nodes-all hash code t ours theirs our-row their-row in
     let is : c.choose-verdict.result ≡ found hash code t = c.choose-verdict.ensures ∙ (λ i. chosen (nodes i) (c.compare_chains-chains.ensures.broken i) (c.compare_chains-chains.ensures.hidden i)) in
     record {
-      root = c.climb_to_root-root.ensures.theirs ∙ sym (their-root hash code t c.requires.there);
+      root = c.climb_to_root-root.ensures.theirs ∙ sym (their-root hash code t c.args.self.now.there);
       verdict = is;
       first = subst (Found hash code t) (sym is) (found_first hash code t);
     }

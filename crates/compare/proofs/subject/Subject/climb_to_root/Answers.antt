@@ -8,13 +8,13 @@ use Rattle.compare.specs.Sides.{our_node, their_node}
 use Rattle.compare.specs.Views.{traced_of}
 use Rattle.compare.proofs.Beside.{level-one}
 use Rattle.compare.proofs.Firsts.{first-none, first-front}
-use Rattle.compare.proofs.paths.climb_to_root.Goals as goal
+use Rattle.compare.proofs.subject.Subject.climb_to_root.Goals as goal
 
 pub loop-e-init : goal.loop-e-init
 loop-e-init g c =
     let hash = hash_of g.H.ChainHash g.H.TreeHash in
     let code = code_of g.C.Code in
-    let t = traced_of c.args.subject.now in
+    let t = traced_of c.args.self.now in
     let top : t.origin.height ≡ t.origin.height - 0 = omega arith in (
       omega arith,
       c.requires.ours ∙ ap (λ a. our_node hash code t a t.leaf) top,
@@ -26,7 +26,7 @@ pub climb_one-above-requires : goal.climb_one-above-requires
 climb_one-above-requires g c =
     let hash = hash_of g.H.ChainHash g.H.TreeHash in
     let code = code_of g.C.Code in
-    let t = traced_of c.args.subject.now in
+    let t = traced_of c.args.self.now in
     let h = t.origin.height in
     let e = c.loop-e.e in
     let more = c.loop-e-test.true in
@@ -34,9 +34,6 @@ climb_one-above-requires g c =
     let far : e ≡ h - (h - e - 1 + 1) = omega arith in
     let inv = c.loop-e.invariant in
     record {
-      tall = c.requires.tall;
-      there = c.requires.there;
-      row = c.requires.row;
       under = omega arith;
       place = inv.0 ∙ ap (λ n. t.leaf / 2 ^ n) far;
       ours = inv.1 ∙ ap (λ a. our_node hash code t a c.loop-e.position) up;
@@ -47,7 +44,7 @@ pub loop-e-preserved : goal.loop-e-preserved
 loop-e-preserved g c =
     let hash = hash_of g.H.ChainHash g.H.TreeHash in
     let code = code_of g.C.Code in
-    let t = traced_of c.args.subject.now in
+    let t = traced_of c.args.self.now in
     let h = t.origin.height in
     let e = c.loop-e.e in
     let b = c.loop-e.position / 2 in
@@ -70,12 +67,12 @@ pub returns : goal.returns
 returns g c =
     let hash = hash_of g.H.ChainHash g.H.TreeHash in
     let code = code_of g.C.Code in
-    let t = traced_of c.args.subject.now in
+    let t = traced_of c.args.self.now in
     let h = t.origin.height in
     let all : c.loop-e.e ≡ h = omega (arith, c.loop-e-test.false, c.loop-e.auto.e-end) in
     let root : h - c.loop-e.e ≡ 0 = omega arith in
     let inv = c.loop-e.invariant in
-    let first : c.loop-e.position ≡ 0 = inv.0 ∙ ap (λ n. t.leaf / 2 ^ n) all ∙ div-eq_of_lt c.requires.there in
+    let first : c.loop-e.position ≡ 0 = inv.0 ∙ ap (λ n. t.leaf / 2 ^ n) all ∙ div-eq_of_lt c.args.self.now.there in
     record {
       ours = inv.1 ∙ (λ i. our_node hash code t (root i) (first i));
       theirs = inv.2 ∙ (λ i. their_node hash code t (root i) (first i));

@@ -9,13 +9,13 @@ use Rattle.growth.specs.Grown.{secret}
 use Rattle.compare.specs.Search.{first_from, height_search, hidden_find_at}
 use Rattle.compare.specs.Views.{traced_of}
 use Rattle.compare.proofs.Firsts.{first-none, first_more}
-use Rattle.compare.proofs.chains.compare_chains.Goals as goal
+use Rattle.compare.proofs.subject.Subject.compare_chains.Goals as goal
 
 pub loop-k-init : goal.loop-k-init
 loop-k-init g c =
     let hash = hash_of g.H.ChainHash g.H.TreeHash in
     let code = code_of g.C.Code in
-    let t = traced_of c.args.subject.now in
+    let t = traced_of c.args.self.now in
     let step = hash.step t.origin.hash_key in (
       refl,
       refl,
@@ -29,7 +29,7 @@ pub loop-k-preserved : goal.loop-k-preserved
 loop-k-preserved g c =
     let hash = hash_of g.H.ChainHash g.H.TreeHash in
     let code = code_of g.C.Code in
-    let t = traced_of c.args.subject.now in
+    let t = traced_of c.args.self.now in
     let step = hash.step t.origin.hash_key in
     let k = c.loop-k.k in
     let inv = c.loop-k.invariant in
@@ -56,7 +56,7 @@ pub returns : goal.returns
 returns g c =
     let hash = hash_of g.H.ChainHash g.H.TreeHash in
     let code = code_of g.C.Code in
-    let t = traced_of c.args.subject.now in
+    let t = traced_of c.args.self.now in
     let step = hash.step t.origin.hash_key in
     let all : c.loop-k.k ≡ code.count = omega (arith, c.loop-k-test.false, c.loop-k.auto.k-end, c.COUNT-k-end.ensures) in
     let inv = c.loop-k.invariant in
