@@ -142,8 +142,14 @@ impl<H: TreeHash, C: Code> Subject<'_, H, C> {
         let ours = origin.chain_string::<H>(self.leaf, place, digit);
         let theirs = string_at(self.row, place);
         let hidden = hidden::<C>(&self.entered, chain, digit, &ours);
-        let Sides { ours, theirs, find } =
-            climb_both::<H>(&origin.hash_key, chain, digit, C::TOP, &ours, &theirs);
+        let Sides { ours, theirs, find } = climb_both::<H>(
+            &origin.hash_key,
+            chain,
+            digit,
+            C::TOP,
+            &ours,
+            &theirs,
+        );
         Chain {
             ours,
             theirs,

@@ -90,7 +90,13 @@ fn join_level<H: TreeHash>(
     for p in 0..n {
         let our_children = children_at(ours, p);
         let their_children = children_at(theirs, p);
-        let above = join_both(joiner, level, first + p as u16, &our_children, &their_children);
+        let above = join_both(
+            joiner,
+            level,
+            first + p as u16,
+            &our_children,
+            &their_children,
+        );
         put_string(ours, p, &above.ours);
         put_string(theirs, p, &above.theirs);
         found = found.or(above.find);

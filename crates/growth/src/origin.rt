@@ -37,16 +37,3 @@ pub struct Tree<'a, H, C> {
     pub code: PhantomData<C>,
     ghost tall: { origin.now.height ≤ 8 },
 }
-
-impl<'a, H, C> Tree<'a, H, C> {
-    pub fn new(origin: &'a Origin) -> Tree<'a, H, C>
-        requires { origin.now.height ≤ 8 }
-        ensures { result.origin.now ≡ origin.now }
-    {
-        Tree {
-            origin,
-            hash: PhantomData,
-            code: PhantomData,
-        }
-    }
-}

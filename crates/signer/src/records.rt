@@ -5,7 +5,7 @@ ghost use Rattle.tree.specs.Meaning.{hash_of, code_of};
 ghost use Rattle.verifier.specs.Records.{framed, release_length, release_bytes};
 
 use codes::Code;
-use growth::{Origin, shown_string};
+use growth::Tree;
 use hashes::TreeHash;
 use strings::put;
 use verifier::{KEY, RELEASE};
@@ -35,40 +35,37 @@ pub(crate) fn write_key(
 // Writes the strings of a release of a leaf from byte 8 of the output on; the bytes before and after them stay. The work
 // buffer is used up.
 fn write_shown<H: TreeHash, C: Code>(
-    origin: &Origin,
+    tree: &Tree<'_, H, C>,
     leaf: u16,
     stamp: &[u8; 16],
     out: &mut [u8],
     work: &mut [u8; 4096],
 )
-    requires tall { origin.now.height ≤ 8 }
-    requires there { leaf < 2 ^ origin.now.height }
-    requires room { release_length C.Code.COUNT origin.now.height ≤ length out.old }
-    ensures after { out.new ≡ (take 8 out.old ++ shown_row (hash_of H.ChainHash H.TreeHash.own) (code_of C.Code) origin.now leaf stamp.now) ++ drop (release_length C.Code.COUNT origin.now.height) out.old }
-    ensures long { length (shown_row (hash_of H.ChainHash H.TreeHash.own) (code_of C.Code) origin.now leaf stamp.now) ≡ 16 * (C.Code.COUNT + origin.now.height) }
+    requires there { leaf < 2 ^ tree.now.origin.now.height }
+    requires room { release_length C.Code.COUNT tree.now.origin.now.height ≤ length out.old }
+    ensures after { out.new ≡ (take 8 out.old ++ shown_row (hash_of H.ChainHash H.TreeHash.own) (code_of C.Code) tree.now.origin.now leaf stamp.now) ++ drop (release_length C.Code.COUNT tree.now.origin.now.height) out.old }
+    ensures long { length (shown_row (hash_of H.ChainHash H.TreeHash.own) (code_of C.Code) tree.now.origin.now leaf stamp.now) ≡ 16 * (C.Code.COUNT + tree.now.origin.now.height) }
 {
-    for k in 0..C::COUNT + origin.height as usize {
-        let string = shown_string::<H, C>(origin, leaf, stamp, k, work);
-        put(out, 8 + 16 * k, &string);
+    for k in 0..C::COUNT + tree.origin.height as usize {
+        put(out, 8 + 16 * k, &tree.shown_string(leaf, stamp, k, work));
     }
 }
 
 // Writes the release record of a leaf at the start of the output; the bytes past it stay. The work buffer is used up.
 pub(crate) fn write_release<H: TreeHash, C: Code>(
-    origin: &Origin,
+    tree: &Tree<'_, H, C>,
     leaf: u16,
     stamp: &[u8; 16],
     out: &mut [u8],
     work: &mut [u8; 4096],
 )
-    requires tall { origin.now.height ≤ 8 }
-    requires there { leaf < 2 ^ origin.now.height }
-    requires room { release_length C.Code.COUNT origin.now.height ≤ length out.old }
-    ensures { out.new ≡ release_bytes leaf (shown_row (hash_of H.ChainHash H.TreeHash.own) (code_of C.Code) origin.now leaf stamp.now) ++ drop (release_length C.Code.COUNT origin.now.height) out.old }
+    requires there { leaf < 2 ^ tree.now.origin.now.height }
+    requires room { release_length C.Code.COUNT tree.now.origin.now.height ≤ length out.old }
+    ensures { out.new ≡ release_bytes leaf (shown_row (hash_of H.ChainHash H.TreeHash.own) (code_of C.Code) tree.now.origin.now leaf stamp.now) ++ drop (release_length C.Code.COUNT tree.now.origin.now.height) out.old }
 {
-    let size = 8 + 16 * (C::COUNT + origin.height as usize);
+    let size = 8 + 16 * (C::COUNT + tree.origin.height as usize);
     put(out, 0, &(size as u32).to_le_bytes());
     put(out, 4, &RELEASE.to_le_bytes());
     put(out, 6, &leaf.to_le_bytes());
-    write_shown::<H, C>(origin, leaf, stamp, out, work);
+    write_shown(tree, leaf, stamp, out, work);
 }

@@ -11,7 +11,7 @@ use crate::ledger::Ledger;
 use crate::scratch::Scratch;
 use crate::{Plan, Signer};
 use codes::Code;
-use growth::{Origin, add_leaf};
+use growth::{Origin, Tree};
 use hashes::TreeHash;
 use std::marker::PhantomData;
 use strings::string_at;
@@ -51,7 +51,12 @@ impl<H: TreeHash, C: Code> Maker<H, C> {
         if self.grown == 1 << self.origin.height {
             return Err(Refusal::Grown);
         }
-        add_leaf::<H, C>(&self.origin, self.grown, &mut self.nodes, guard.bytes);
+        let tree = Tree {
+            origin: &self.origin,
+            hash: self.hash,
+            code: self.code,
+        };
+        tree.add_leaf(self.grown, &mut self.nodes, guard.bytes);
         self.grown += 1;
         Ok(self.grown)
     }
@@ -83,14 +88,18 @@ impl<H: TreeHash, C: Code> Maker<H, C> {
         let guard = Scratch { bytes: work };
         let Maker {
             origin,
-            mut grown,
+            grown,
             mut nodes,
             hash,
             code,
         } = self;
-        while grown < 1 << origin.height {
-            add_leaf::<H, C>(&origin, grown, &mut nodes, guard.bytes);
-            grown += 1;
+        for leaf in grown..1 << origin.height {
+            let tree = Tree {
+                origin: &origin,
+                hash,
+                code,
+            };
+            tree.add_leaf(leaf, &mut nodes, guard.bytes);
         }
         let root = string_at(&nodes, 0);
         Signer {

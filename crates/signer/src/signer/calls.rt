@@ -10,6 +10,7 @@ use super::{Retired, Signer};
 use crate::records::{write_key, write_release};
 use crate::scratch::Scratch;
 use codes::Code;
+use growth::Tree;
 use hashes::TreeHash;
 use verifier::Refusal;
 
@@ -61,7 +62,12 @@ impl<H: TreeHash, C: Code> Signer<H, C> {
         if out.len() < size {
             return Err(Refusal::Output);
         }
-        write_release::<H, C>(&self.origin, leaf, stamp, out, guard.bytes);
+        let tree = Tree {
+            origin: &self.origin,
+            hash: self.hash,
+            code: self.code,
+        };
+        write_release(&tree, leaf, stamp, out, guard.bytes);
         self.ledger.enter(leaf, stamp);
         self.next = leaf + 1;
         Ok((size, leaf))

@@ -9,7 +9,8 @@ ghost use Rattle.tree.specs.Meaning.{hash_of, code_of};
 use super::{Retired, Signer};
 use crate::scratch::Scratch;
 use codes::Code;
-use compare::{Subject, compare};
+use compare::Subject;
+use growth::Tree;
 use hashes::TreeHash;
 use strings::same;
 use verifier::{Refusal, read_own};
@@ -36,13 +37,17 @@ impl<H: TreeHash, C: Code> Signer<H, C> {
         let guard = Scratch { bytes: work };
         let release = read_own::<C>(self.origin.height, bytes)?;
         let subject = Subject {
-            origin: &self.origin,
+            tree: Tree {
+                origin: &self.origin,
+                hash: self.hash,
+                code: self.code,
+            },
             entered: self.ledger.row(release.leaf),
             stamp,
             leaf: release.leaf,
             row: release.row,
         };
-        let compared = compare::<H, C>(&subject, guard.bytes);
+        let compared = subject.compare(guard.bytes);
         if !same(&compared.root, &self.root) {
             return Err(Refusal::Root);
         }

@@ -12,18 +12,18 @@ use Rattle.signer.proofs.Ledgers.{empty-fresh}
 use Rattle.signer.proofs.Growing.{leaves-turn, leaves_all}
 use Rattle.signer.proofs.maker.Maker.finish.Goals as goal
 
-pub loop-grown-preserved : goal.loop-grown-preserved
-loop-grown-preserved g c =
+pub loop-leaf-preserved : goal.loop-leaf-preserved
+loop-leaf-preserved g c =
     let hash = hash_of g.H.ChainHash g.H.TreeHash in
     let code = code_of g.C.Code in
     let o = c.args.self.origin in
     let tall = c.args.self.tall in
     let shift = one_shl o.height 16 (omega arith) in
-    let more : c.loop-grown.grown < 2 ^ o.height = omega (arith, c.loop-grown-test.true) in (
+    let more : c.loop-leaf.leaf < 2 ^ o.height = omega (arith, c.loop-leaf-test.true) in (
       omega arith,
       omega arith,
-      leaves-turn hash code o (2 ^ o.height) c.loop-grown.grown c.loop-grown.nodes c.add_leaf.new.nodes more c.add_leaf.ensures.after ∙ c.loop-grown.invariant.2,
-      λ held. c.add_leaf.ensures.held (c.loop-grown.invariant.3 held),
+      leaves-turn hash code o (2 ^ o.height) c.loop-leaf.leaf c.loop-leaf.nodes c.add_leaf.new.nodes more c.add_leaf.ensures.after ∙ c.loop-leaf.invariant.2,
+      λ held. c.add_leaf.ensures.held (c.loop-leaf.invariant.3 held),
     )
 
 pub returns : goal.returns
@@ -33,13 +33,13 @@ returns g c =
     let o = c.args.self.origin in
     let tall = c.args.self.tall in
     let shift = one_shl o.height 16 (omega arith) in
-    let all : c.loop-grown.grown ≡ 2 ^ o.height = omega (arith, c.loop-grown-test.false, c.loop-grown.invariant.0) in
-    let last = leaves_all hash code o (2 ^ o.height) c.loop-grown.grown c.args.self.grown c.loop-grown.nodes c.args.self.nodes all c.loop-grown.invariant.2 in
+    let all : c.loop-leaf.leaf ≡ 2 ^ o.height = omega (arith, c.loop-leaf-test.false, c.loop-leaf.invariant.0) in
+    let last = leaves_all hash code o (2 ^ o.height) c.loop-leaf.leaf c.args.self.grown c.loop-leaf.nodes c.args.self.nodes all c.loop-leaf.invariant.2 in
     let state : ◌≡◌ {A = Signing} _ (finish_rule hash code (making_of c.args.self)) = λ i. record { origin = o; root = (c.string_at-root.ensures ∙ ap (λ l. string_at l 0) last) i; next = 0; rows = c.empty.ensures i } in
     record {
       state = state;
       lived = finish-continues hash code (making_of c.args.self) _ state;
-      rooted = λ held. c.string_at-root.ensures ∙ holds-root hash code o c.loop-grown.nodes (subst (λ n. Holds hash code o n c.loop-grown.nodes) all (c.loop-grown.invariant.3 held));
+      rooted = λ held. c.string_at-root.ensures ∙ holds-root hash code o c.loop-leaf.nodes (subst (λ n. Holds hash code o n c.loop-leaf.nodes) all (c.loop-leaf.invariant.3 held));
       wiped = c.drop-guard.ensures;
     }
 

@@ -5,15 +5,12 @@ use Rattle.tree.specs.Meaning.{hash_of, code_of}
 use Rattle.signer.proofs.maker.Maker.finish.Given as goal
 
 -- the leaves that are still lacking lead to the same end
-abbrev pub invariant-loop-grown : goal.invariant-loop-grown
-invariant-loop-grown g l =
+abbrev pub invariant-loop-leaf : goal.invariant-loop-leaf
+invariant-loop-leaf g l =
     let hash = hash_of g.H.ChainHash g.H.TreeHash in
     let code = code_of g.C.Code in
     let all = 2 ^ l.origin.height in
-    (l.grown ≤ all)
+    (l.leaf ≤ all)
     × (length l.nodes ≡ 144)
-    × (leaves_more hash code (all - l.grown) (record { origin = l.origin; grown = l.grown; nodes = l.nodes }) ≡ leaves_more hash code (all - l.initial.grown) (record { origin = l.origin; grown = l.initial.grown; nodes = l.initial.nodes }))
-    × (Holds hash code l.origin l.initial.grown l.initial.nodes → Holds hash code l.origin l.grown l.nodes)
-
-abbrev pub decreases-loop-grown : goal.decreases-loop-grown
-decreases-loop-grown g l = 2 ^ l.origin.height - l.grown
+    × (leaves_more hash code (all - l.leaf) (record { origin = l.origin; grown = l.leaf; nodes = l.nodes }) ≡ leaves_more hash code (all - l.grown) (record { origin = l.origin; grown = l.grown; nodes = l.initial.nodes }))
+    × (Holds hash code l.origin l.grown l.initial.nodes → Holds hash code l.origin l.leaf l.nodes)
