@@ -1,6 +1,9 @@
 -- What a session answers to a call, and what it leaves.
 -- Assumes nothing.
 use Rattle.std.specs.Prelude.{ℕ, zero, suc, List, [], ◌∷◌, ◌++◌, map, take, replicate, Some, None, Ok, Err, vec_items, Option, Result}
+use Rattle.codes.specs.declared.Code as code_trait
+use Rattle.hashes.specs.declared.ChainHash as chain_hash
+use Rattle.hashes.specs.declared.TreeHash as tree_hash
 use Rattle.histories.specs.Histories.{State, growing, serving, retired}
 use Rattle.histories.specs.Rules as signer_rules
 use Rattle.histories.specs.States.{Making, Signing}
@@ -139,7 +142,7 @@ module _ (hash : Hash) (code : Code) where
   leaves (retired s) retire = retired s
   leaves (retired s) (trace stamp bytes) = retired s
 
-abbrev pub state_of : {H C : Type 0} → Session H C → State
+abbrev pub state_of : {H C : Type 0} {tree : tree_hash.Ghosts H} {chain : chain_hash.Ghosts H} {code : code_trait.Ghosts C} → Session H C tree chain code → State
 state_of (session.Growing m) = growing (making_of m)
 state_of (session.Serving s) = serving (signing_of s)
 state_of (session.Retired r) = retired (signing_of r.signer)

@@ -22,7 +22,7 @@ mod signer_calls;
 
 // A key: being grown, in service, or retired.
 #[derive(Drop)]
-pub enum Session<H, C> {
+pub enum Session<H: TreeHash, C: Code> {
     Growing(Maker<H, C>),
     Serving(Signer<H, C>),
     Retired(Retired<H, C>),

@@ -1,12 +1,15 @@
 -- What the signer's types stand for.
 -- Assumes nothing.
+use Rattle.codes.specs.declared.Code as code_trait
+use Rattle.hashes.specs.declared.ChainHash as chain_hash
+use Rattle.hashes.specs.declared.TreeHash as tree_hash
 use Rattle.histories.specs.States.{Making, Signing}
 use Rattle.signer.specs.declared.maker.Maker.{Maker}
 use Rattle.signer.specs.declared.signer.Signer.{Signer}
 
-module _ {H C : Type 0} where
-  abbrev pub making_of : Maker H C → Making
+module _ {H C : Type 0} {tree : tree_hash.Ghosts H} {chain : chain_hash.Ghosts H} {code : code_trait.Ghosts C} where
+  abbrev pub making_of : Maker H C tree chain code → Making
   making_of m = record { origin = m.origin; grown = m.grown; nodes = m.nodes }
 
-  abbrev pub signing_of : Signer H C → Signing
+  abbrev pub signing_of : Signer H C tree chain code → Signing
   signing_of s = record { origin = s.origin; root = s.root; next = s.next; rows = s.ledger.rows }

@@ -1,14 +1,18 @@
 // A key that is being grown.
 ghost use Rattle.std.specs.Prelude.{ℕ, ◌^◌, ◌<◌, ◌≤◌, slice_index};
+ghost use Rattle.growth.specs.Grown.{Holds};
+ghost use Rattle.tree.specs.Meaning.{hash_of, code_of};
 
+use codes::Code;
 use growth::Origin;
+use hashes::TreeHash;
 use std::marker::PhantomData;
 
 mod calls;
 
 // Only `begin` makes one. Its hash and code are fixed by its type.
 #[derive(Drop)]
-pub struct Maker<H, C> {
+pub struct Maker<H: TreeHash, C: Code> {
     origin: Origin,
     // How many leaves are in.
     grown: u16,
@@ -18,5 +22,6 @@ pub struct Maker<H, C> {
     code: PhantomData<C>,
     ghost tall: { (1 ≤ origin.height) × (origin.height ≤ 8) },
     ghost few: { grown ≤ 2 ^ origin.height },
+    ghost holds: { Holds (hash_of H.ChainHash H.TreeHash) (code_of C.Code) origin grown nodes },
     ghost bytes: { (i : ℕ) → (slice_index origin.seed i < 256) × (slice_index origin.hash_key i < 256) × (slice_index origin.masks i < 256) },
 }

@@ -1,9 +1,13 @@
 // A key in service.
 ghost use Rattle.std.specs.Prelude.{◌≡◌, ℕ, ◌^◌, ◌<◌, ◌≤◌, true, length, get_or, None, slice_index, slice_index_or};
+ghost use Rattle.growth.specs.Grown.{node_at};
 ghost use Rattle.histories.specs.States.{empty_row};
+ghost use Rattle.tree.specs.Meaning.{hash_of, code_of};
 
 use crate::ledger::Ledger;
+use codes::Code;
 use growth::Origin;
+use hashes::TreeHash;
 use std::marker::PhantomData;
 
 mod calls;
@@ -11,7 +15,7 @@ mod tracing;
 
 // Only `finish` makes one.
 #[derive(Drop)]
-pub struct Signer<H, C> {
+pub struct Signer<H: TreeHash, C: Code> {
     pub(crate) origin: Origin,
     pub(crate) root: [u8; 16],
     // The next leaf to be spent.
@@ -21,6 +25,7 @@ pub struct Signer<H, C> {
     pub(crate) code: PhantomData<C>,
     ghost tall: { (1 ≤ origin.height) × (origin.height ≤ 8) },
     ghost within: { next ≤ 2 ^ origin.height },
+    ghost rooted: { root ≡ node_at (hash_of H.ChainHash H.TreeHash) (code_of C.Code) origin 0 0 },
     ghost sized: { (length origin.hash_key ≡ 16) × (length origin.masks ≡ 512) × (length root ≡ 16) },
     ghost fresh: { (i : ℕ) → next ≤ i → empty_row (slice_index_or ledger.rows i None) ≡ true },
     ghost seeded: { length origin.seed ≡ 16 },
@@ -29,6 +34,6 @@ pub struct Signer<H, C> {
 
 // A key out of service: it signs no more. Only `retire` makes one.
 #[derive(Drop)]
-pub struct Retired<H, C> {
+pub struct Retired<H: TreeHash, C: Code> {
     signer: Signer<H, C>,
 }

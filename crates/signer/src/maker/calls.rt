@@ -1,6 +1,6 @@
 // Beginning and growing a key.
 ghost use Rattle.std.specs.Prelude.{◌≡◌, ℕ, List, [], replicate, Some};
-ghost use Rattle.growth.specs.Grown.{Holds, node_at};
+ghost use Rattle.growth.specs.Grown.{node_at};
 ghost use Rattle.histories.specs.Histories.{growing, serving, grow, finish, Lived, Continues};
 ghost use Rattle.histories.specs.Rules.{begin_rule, grow_answer, grow_leaves, held_rule, finish_rule};
 ghost use Rattle.signer.specs.Views.{making_of, signing_of};
@@ -21,7 +21,6 @@ impl<H: TreeHash, C: Code> Maker<H, C> {
     // Begins a key: no leaf is in. String 2a of the masks is the left mask of level a, string 2a + 1 the right one.
     pub fn begin(plan: Plan, seed: [u8; 16], hash_key: [u8; 16], masks: [u8; 512]) -> Maker<H, C>
         ensures state { making_of result ≡ begin_rule (record { seed = seed; hash_key = hash_key; masks = masks; height = plan.height }) }
-        ensures held { Holds (hash_of H.ChainHash H.TreeHash.own) (code_of C.Code) result.origin result.grown result.nodes }
         ensures lived { Lived (hash_of H.ChainHash H.TreeHash.own) (code_of C.Code) (record { seed = seed; hash_key = hash_key; masks = masks; height = plan.height }) [] (growing (making_of result)) }
     {
         let height = plan.height();
@@ -43,7 +42,6 @@ impl<H: TreeHash, C: Code> Maker<H, C> {
     pub fn grow(&mut self, work: &mut [u8; 4096]) -> Result<u16, Refusal>
         ensures answer { result ≡ grow_answer (making_of self.old) }
         ensures state { making_of self.new ≡ grow_leaves (hash_of H.ChainHash H.TreeHash.own) (code_of C.Code) (making_of self.old) }
-        ensures held { Holds (hash_of H.ChainHash H.TreeHash.own) (code_of C.Code) self.old.origin self.old.grown self.old.nodes → Holds (hash_of H.ChainHash H.TreeHash.own) (code_of C.Code) self.new.origin self.new.grown self.new.nodes }
         ensures lived { Continues (hash_of H.ChainHash H.TreeHash.own) (code_of C.Code) (growing (making_of self.old)) (grow result) (growing (making_of self.new)) }
         ensures wiped { work.new ≡ replicate 4096 0 }
     {
@@ -65,7 +63,7 @@ impl<H: TreeHash, C: Code> Maker<H, C> {
     // has it.
     pub fn held(&self, level: u8) -> Option<(u16, [u8; 16])>
         ensures value { result ≡ held_rule (making_of self.now) level }
-        ensures node { Holds (hash_of H.ChainHash H.TreeHash.own) (code_of C.Code) self.now.origin self.now.grown self.now.nodes → (b : ℕ) (s : List ℕ) → result ≡ Some (b, s) → s ≡ node_at (hash_of H.ChainHash H.TreeHash.own) (code_of C.Code) self.now.origin level b }
+        ensures node { (b : ℕ) (s : List ℕ) → result ≡ Some (b, s) → s ≡ node_at (hash_of H.ChainHash H.TreeHash.own) (code_of C.Code) self.now.origin level b }
     {
         if level > self.origin.height {
             return None;
@@ -81,7 +79,7 @@ impl<H: TreeHash, C: Code> Maker<H, C> {
     // Grows whatever leaves are lacking, and puts the key into service. The work buffer is zero after.
     pub fn finish(self, work: &mut [u8; 4096]) -> Signer<H, C>
         ensures state { signing_of result ≡ finish_rule (hash_of H.ChainHash H.TreeHash.own) (code_of C.Code) (making_of self) }
-        ensures rooted { Holds (hash_of H.ChainHash H.TreeHash.own) (code_of C.Code) self.origin self.grown self.nodes → result.root ≡ node_at (hash_of H.ChainHash H.TreeHash.own) (code_of C.Code) result.origin 0 0 }
+        ensures rooted { result.root ≡ node_at (hash_of H.ChainHash H.TreeHash.own) (code_of C.Code) result.origin 0 0 }
         ensures lived { Continues (hash_of H.ChainHash H.TreeHash.own) (code_of C.Code) (growing (making_of self)) finish (serving (signing_of result)) }
         ensures wiped { work.new ≡ replicate 4096 0 }
     {

@@ -27,6 +27,10 @@ returns g c =
     } in
     record {
       state = state;
-      held = holds-none hash code _;
       lived = begin-lives hash code o _ given state;
     }
+
+pub invariant_of-result : goal.invariant_of-result
+invariant_of-result g c =
+    let held = holds-none (hash_of g.H.ChainHash g.H.TreeHash) (code_of g.C.Code) (record { seed = c.args.seed; hash_key = c.args.hash_key; masks = c.args.masks; height = c.height-height.result }) in
+    search (rules, held)

@@ -1,6 +1,6 @@
 use Rattle.std.proofs.Common.{◌≡◌, ◌^◌, ◌<◌, ap, ◌∙◌, subst, arith, rules}
 use Rattle.std.proofs.lemmas.Nat.{one_shl}
-use Rattle.growth.specs.Grown.{Holds}
+use Rattle.growth.specs.Grown.{node_at, Holds}
 use Rattle.histories.specs.Rules.{finish_rule}
 use Rattle.histories.specs.States.{Signing}
 use Rattle.histories.proofs.Continuing.{finish-continues}
@@ -10,7 +10,9 @@ use Rattle.tree.specs.Meaning.{hash_of, code_of}
 use Rattle.signer.specs.Views.{making_of}
 use Rattle.signer.proofs.Ledgers.{empty-fresh}
 use Rattle.signer.proofs.Growing.{leaves-turn, leaves_all}
+use Rattle.signer.proofs.maker.Maker.finish.Given as given
 use Rattle.signer.proofs.maker.Maker.finish.Goals as goal
+use Rattle.signer.proofs.maker.Maker.finish.Goals.{After-string_at-root}
 
 pub loop-leaf-preserved : goal.loop-leaf-preserved
 loop-leaf-preserved g c =
@@ -26,6 +28,17 @@ loop-leaf-preserved g c =
       λ held. c.add_leaf.ensures.held (c.loop-leaf.invariant.3 held),
     )
 
+-- the string at level 0 is the root, since all leaves are in
+root_is : (g : given.Over) (c : After-string_at-root g) → c.string_at-root.result ≡ node_at (hash_of g.H.ChainHash g.H.TreeHash) (code_of g.C.Code) c.args.self.origin 0 0
+root_is g c =
+    let hash = hash_of g.H.ChainHash g.H.TreeHash in
+    let code = code_of g.C.Code in
+    let o = c.args.self.origin in
+    let tall = c.args.self.tall in
+    let shift = one_shl o.height 16 (omega arith) in
+    let all : c.loop-leaf.leaf ≡ 2 ^ o.height = omega (arith, c.loop-leaf-test.false, c.loop-leaf.invariant.0) in
+    c.string_at-root.ensures ∙ holds-root hash code o c.loop-leaf.nodes (subst (λ n. Holds hash code o n c.loop-leaf.nodes) all (c.loop-leaf.invariant.3 c.args.self.holds))
+
 pub returns : goal.returns
 returns g c =
     let hash = hash_of g.H.ChainHash g.H.TreeHash in
@@ -39,7 +52,7 @@ returns g c =
     record {
       state = state;
       lived = finish-continues hash code (making_of c.args.self) _ state;
-      rooted = λ held. c.string_at-root.ensures ∙ holds-root hash code o c.loop-leaf.nodes (subst (λ n. Holds hash code o n c.loop-leaf.nodes) all (c.loop-leaf.invariant.3 held));
+      rooted = root_is g (goal.at.returns g c).After-string_at-root;
       wiped = c.drop-guard.ensures;
     }
 
@@ -48,6 +61,7 @@ invariant_of-result g c =
     record {
       tall = c.args.self.tall;
       within = search rules;
+      rooted = root_is g (goal.at.invariant_of-result g c).After-string_at-root;
       sized = search rules;
       fresh = λ i le. empty-fresh _ 256 i c.empty.ensures;
       seeded = search rules;

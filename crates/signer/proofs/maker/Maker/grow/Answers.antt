@@ -16,7 +16,6 @@ returns-then-self g c =
     record {
       answer = answer;
       state = state;
-      held = λ held. held;
       lived = grow-continues hash code m m (Err Grown) answer state;
       wiped = c.drop-guard.ensures;
     }
@@ -31,7 +30,9 @@ returns g c =
     record {
       answer = answer;
       state = state;
-      held = c.add_leaf.ensures.held;
       lived = grow-continues hash code m _ (Ok (m.grown + 1)) answer state;
       wiped = c.drop-guard-2.ensures;
     }
+
+pub invariant_of-self-clause-holds : goal.invariant_of-self-clause-holds
+invariant_of-self-clause-holds g c = c.add_leaf.ensures.held c.args.self.now.holds

@@ -6,7 +6,7 @@ use Rattle.strings.proofs.Laws.{str-from}
 use Rattle.tree.specs.Meaning.{hash_of, code_of}
 use Rattle.verifier.specs.declared.refusal.Refusal.{Refusal}
 use Rattle.verifier.specs.declared.refusal.Refusal.TheVariants.{Spent, Output}
-use Rattle.histories.specs.Rules.{release_size, release_record, all_spent, no_room, Rooted, Accepted, Accepts}
+use Rattle.histories.specs.Rules.{release_size, release_record, all_spent, no_room, Accepted, Accepts}
 use Rattle.signer.specs.Views.{signing_of}
 use Rattle.signer.specs.declared.signer.Signer.{Signer}
 use Rattle.histories.proofs.Accepting.{accepting, verifying}
@@ -17,26 +17,26 @@ use Rattle.signer.proofs.signer.Signer.sign.Given as given
 use Rattle.signer.proofs.signer.Signer.sign.Goals as goal
 
 -- what both clauses on acceptance rest on
-module _ {H C : Type 0} (g : given.Over) (s : Signer H C) (stamp : List ℕ) (str : Str stamp) where
+module _ (g : given.Over) (s : Signer g.row.H.Denot g.row.C.Denot g.H.TreeHash g.H.ChainHash g.C.Code) (stamp : List ℕ) (str : Str stamp) where
   few : g.C.Code.LEVELS ≤ 8
   few = g.met.C.Code.level_range.1
 
   many : 2 ^ g.C.Code.LEVELS ≤ 256
   many = pow_mono {i = g.C.Code.LEVELS} {j = 8} few
 
-  accepts : Rooted (hash_of g.H.ChainHash g.H.TreeHash) (code_of g.C.Code) (signing_of s) → s.next < 2 ^ s.origin.height → Accepts (hash_of g.H.ChainHash g.H.TreeHash) (code_of g.C.Code) (signing_of s) stamp (release_record (hash_of g.H.ChainHash g.H.TreeHash) (code_of g.C.Code) (signing_of s) stamp) s.next
+  accepts : s.next < 2 ^ s.origin.height → Accepts (hash_of g.H.ChainHash g.H.TreeHash) (code_of g.C.Code) (signing_of s) stamp (release_record (hash_of g.H.ChainHash g.H.TreeHash) (code_of g.C.Code) (signing_of s) stamp) s.next
   unfolding release_record
   accepts =
       let m = many in
       let strings = signer-strings (hash_of g.H.ChainHash g.H.TreeHash) s g.met.H.ChainHash.gives g.met.H.TreeHash.joins in
-      accepting (hash_of g.H.ChainHash g.H.TreeHash) (code_of g.C.Code) (signing_of s) strings s.tall few s.sized.2 s.next stamp (omega (arith, g.met.C.Code.count_range)) (λ k. g.met.C.Code.within stamp k str)
+      accepting (hash_of g.H.ChainHash g.H.TreeHash) (code_of g.C.Code) (signing_of s) strings s.tall few s.sized.2 s.next stamp (omega (arith, g.met.C.Code.count_range)) (λ k. g.met.C.Code.within stamp k str) s.rooted
 
-  accepted : Rooted (hash_of g.H.ChainHash g.H.TreeHash) (code_of g.C.Code) (signing_of s) → s.next < 2 ^ s.origin.height → Accepted (hash_of g.H.ChainHash g.H.TreeHash) (code_of g.C.Code) (signing_of s) stamp
+  accepted : s.next < 2 ^ s.origin.height → Accepted (hash_of g.H.ChainHash g.H.TreeHash) (code_of g.C.Code) (signing_of s) stamp
   unfolding release_record
   accepted =
       let m = many in
       let strings = signer-strings (hash_of g.H.ChainHash g.H.TreeHash) s g.met.H.ChainHash.gives g.met.H.TreeHash.joins in
-      verifying (hash_of g.H.ChainHash g.H.TreeHash) (code_of g.C.Code) (signing_of s) strings s.tall few s.sized.2 s.next stamp (omega (arith, g.met.C.Code.count_range)) (λ k. g.met.C.Code.within stamp k str)
+      verifying (hash_of g.H.ChainHash g.H.TreeHash) (code_of g.C.Code) (signing_of s) strings s.tall few s.sized.2 s.next stamp (omega (arith, g.met.C.Code.count_range)) (λ k. g.met.C.Code.within stamp k str) s.rooted
 
 pub returns-then-leaf-self : goal.returns-then-leaf-self
 returns-then-leaf-self g c =
@@ -118,6 +118,7 @@ invariant_of-self g c =
     record {
       tall = tall;
       within = omega (arith, self.within, c.if-leaf-self.false);
+      rooted = self.rooted;
       sized = self.sized;
       fresh = enter-fresh _ _ self.next _ c.enter.ensures self.fresh;
       seeded = self.seeded;

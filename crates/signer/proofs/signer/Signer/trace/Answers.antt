@@ -1,5 +1,8 @@
 use Rattle.std.proofs.Common.{◌≡◌, ℕ, List, Ok, Err, Result, sym, ap, ◌∙◌, subst}
 use Rattle.std.proofs.lemmas.Result.{err_from_is_err_and}
+use Rattle.codes.specs.declared.Code as code_trait
+use Rattle.hashes.specs.declared.ChainHash as chain_hash
+use Rattle.hashes.specs.declared.TreeHash as tree_hash
 use Rattle.compare.specs.Search.{found}
 use Rattle.histories.specs.Promise.{Promise, Promised}
 use Rattle.histories.specs.Rules.{trace_answer, trace_report, Finds}
@@ -23,7 +26,7 @@ use Rattle.signer.proofs.signer.Signer.trace.Given as given
 use Rattle.signer.proofs.signer.Signer.trace.Goals as goal
 
 -- the signer reads as verify does under its own key
-reads : {H C : Type 0} (g : given.Over) (s : Signer H C) (stamp bytes report : List ℕ) → ReadsOwn (hash_of g.H.ChainHash g.H.TreeHash) (code_of g.C.Code) (signing_of s) stamp bytes report
+reads : {H C : Type 0} {tree : tree_hash.Ghosts H} {chain : chain_hash.Ghosts H} {coded : code_trait.Ghosts C} (g : given.Over) (s : Signer H C tree chain coded) (stamp bytes report : List ℕ) → ReadsOwn (hash_of g.H.ChainHash g.H.TreeHash) (code_of g.C.Code) (signing_of s) stamp bytes report
 reads g s stamp bytes report =
     own-reads (hash_of g.H.ChainHash g.H.TreeHash) (code_of g.C.Code) (signing_of s) (signer-strings (hash_of g.H.ChainHash g.H.TreeHash) s g.met.H.ChainHash.gives g.met.H.TreeHash.joins) s.tall g.met.C.Code.level_range.1 s.sized.2 stamp bytes
 
