@@ -8,7 +8,7 @@ use crate::release::read_release;
 use crate::{OpenedKey, Refusal};
 use codes::Code;
 use hashes::TreeHash;
-use strings::{same, string_at};
+use strings::same;
 use tree::roots::rebuild_root;
 
 // The leaf number of a release record that is good for the stamp under the opened key.
@@ -20,17 +20,17 @@ pub fn verify<H: TreeHash, C: Code>(
     ensures { result ≡ verify_rule (hash_of H.ChainHash H.TreeHash.own) (code_of C.Code) (key_of key.now) stamp.now bytes.now }
 {
     let release = read_release::<H, C>(key, bytes)?;
-    let hash_key = string_at(key.hash_key(), 0);
+    let hash_key = key.hash_key();
     let root = rebuild_root::<H, C>(
-        &hash_key,
+        hash_key,
         key.masks(),
         key.height as usize,
         release.leaf,
         stamp,
         release.row,
     );
-    let wanted = string_at(key.root(), 0);
-    if !same(&root, &wanted) {
+    let wanted = key.root();
+    if !same(&root, wanted) {
         return Err(Refusal::Root);
     }
     Ok(release.leaf)
