@@ -18,8 +18,7 @@ told g c =
 pub returns-in_err-body-clause-reads : goal.returns-in_err-body-clause-reads
 returns-in_err-body-clause-reads g c =
     let bytes = c.args.bytes.now in
-    let is : seen shown_by c.from_residual.result ≡ read_rule g.H.ChainHash.numbered (code_of g.C.Code) (key_of c.args.key.now) bytes = search rules in
-    reads-releases-as g.H.ChainHash.numbered (code_of g.C.Code) (key_of c.args.key.now) bytes _ g.met.C.Code.level_range.1 g.met.C.Code.count_range.1 (bytes-from bytes c.type_inv.bytes) is
+    reads-releases-as g.H.ChainHash.numbered (code_of g.C.Code) (key_of c.args.key.now) bytes _ g.met.C.Code.level_range.1 g.met.C.Code.count_range.1 (bytes-from bytes c.type_inv.bytes) (search rules)
 
 pub returns-clause-answer : goal.returns-clause-answer
 returns-clause-answer g c = told g c
