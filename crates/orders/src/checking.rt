@@ -17,7 +17,7 @@ use hashes::{ChainHash, Practice, TreeHash};
 use sha256::Sha256Hash;
 use std::alloc::{AllocError, Global};
 use strings::string_at;
-use verifier::{KEY, OpenedKey, Refusal, body_of, open, verify};
+use verifier::{OpenedKey, RecordKind, Refusal, body_of, open, verify};
 
 // The outcome of the first order in `bytes`, and the bytes of the others.
 fn check_order<'a, H: TreeHash, C: Code>(
@@ -96,7 +96,7 @@ fn check_with<H: TreeHash, C: Code>(
 fn unknown(heap: Global, key: &[u8]) -> Report
     ensures { Unknown (header_rule 1 key.now) result }
 {
-    match body_of(key, KEY) {
+    match body_of(key, RecordKind::Key) {
         Ok(_) => refused_key(heap, Refusal::Parameters),
         Err(refusal) => refused_key(heap, refusal),
     }

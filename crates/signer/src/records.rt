@@ -8,7 +8,7 @@ use codes::Code;
 use growth::Tree;
 use hashes::TreeHash;
 use strings::put;
-use verifier::{KEY, RELEASE};
+use verifier::RecordKind;
 
 // Writes a key record at the start of the output; the bytes past it stay. `names` is the hash number, the code number,
 // the height and the spare byte.
@@ -25,7 +25,7 @@ pub(crate) fn write_key(
 {
     let size = 42 + masks.len();
     put(out, 0, &(size as u32).to_le_bytes());
-    put(out, 4, &KEY.to_le_bytes());
+    put(out, 4, &RecordKind::Key.number().to_le_bytes());
     put(out, 6, names);
     put(out, 10, hash_key);
     put(out, 26, masks);
@@ -65,7 +65,7 @@ pub(crate) fn write_release<H: TreeHash, C: Code>(
 {
     let size = 8 + 16 * (C::COUNT + tree.origin.height as usize);
     put(out, 0, &(size as u32).to_le_bytes());
-    put(out, 4, &RELEASE.to_le_bytes());
+    put(out, 4, &RecordKind::Release.number().to_le_bytes());
     put(out, 6, &leaf.to_le_bytes());
     write_shown(tree, leaf, stamp, out, work);
 }

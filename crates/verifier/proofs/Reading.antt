@@ -1,9 +1,8 @@
 -- Bytes are read as a record exactly when writing that record yields them.
 -- Assumes nothing.
-use Rattle.std.proofs.Common.{◌≡◌, ℕ, ◌+◌, ◌-◌, ◌*◌, ◌/◌, ◌%◌, ◌^◌, ◌<◌, ◌≤◌, true, List, [], ◌∷◌, ◌++◌, length, get_or, take, drop, Ok, Result, sym, refl, ap, ◌∙◌, subst, arith, pow_mono}
-use native.Mathlib.Nat.{div-div-eq-div-mul}
-use Rattle.std.proofs.ByRecursion.{All-get_or}
-use Rattle.std.proofs.lemmas.List.{length-append, length-take-le, length-drop, take-append-drop, take_all, take_at, drop_at, drop-drop, drop_more}
+use Rattle.std.proofs.Common.{◌≡◌, ℕ, ◌+◌, ◌-◌, ◌*◌, ◌^◌, ◌<◌, ◌≤◌, true, List, ◌++◌, length, take, drop, Ok, Result, sym, refl, ap, ◌∙◌, subst, le_trans, arith, pow_mono}
+use Rattle.std.proofs.lemmas.Grind.{common_steps}
+use Rattle.std.proofs.lemmas.List.{length-take-le, length-drop, take-append-drop, take_all, take_at, drop_at, drop-drop}
 use Rattle.verifier.specs.declared.refusal.Refusal.{Refusal}
 use Rattle.strings.specs.Strings.{Bytes, little_endian}
 use Rattle.tree.specs.Meaning.{Code}
@@ -15,60 +14,11 @@ use Rattle.verifier.proofs.Facts.{Headed, Opens, open-from, open-to, suited-to, 
 
 -- the six header bytes are those that writing puts before the body
 pub frame : (kind : ℕ) (bytes : List ℕ) → Bytes bytes → Headed kind bytes → bytes ≡ framed kind (drop 6 bytes)
-frame kind [] b h = absurd (omega (arith, h.long))
-frame kind (b0 ∷ []) b h = absurd (omega (arith, h.long))
-frame kind (b0 ∷ b1 ∷ []) b h = absurd (omega (arith, h.long))
-frame kind (b0 ∷ b1 ∷ b2 ∷ []) b h = absurd (omega (arith, h.long))
-frame kind (b0 ∷ b1 ∷ b2 ∷ b3 ∷ []) b h = absurd (omega (arith, h.long))
-frame kind (b0 ∷ b1 ∷ b2 ∷ b3 ∷ b4 ∷ []) b h = absurd (omega (arith, h.long))
-frame kind (b0 ∷ b1 ∷ b2 ∷ b3 ∷ b4 ∷ b5 ∷ rest) b h =
-    let whole = h.whole in
-    let kinded = h.kinded in
-    let c0 = b.0 in
-    let c1 = b.1.0 in
-    let c2 = b.1.1.0 in
-    let c3 = b.1.1.1.0 in
-    let c4 = b.1.1.1.1.0 in
-    let c5 = b.1.1.1.1.1.0 in
-    let n = 6 + length rest in
-    let q1 : n / 256 ≡ b1 + 256 * (b2 + 256 * b3) = omega arith in
-    let q2 : n / 65536 ≡ b2 + 256 * b3 = sym (div-div-eq-div-mul n 256 256) ∙ ap (λ q. q / 256) q1 ∙ omega arith in
-    let q3 : n / 16777216 ≡ b3 = sym (div-div-eq-div-mul n 65536 256) ∙ ap (λ q. q / 256) q2 ∙ omega arith in
-    let e0 : b0 ≡ n / 1 % 256 = omega arith in
-    let e1 : b1 ≡ n / 256 % 256 = sym (ap (λ q. q % 256) q1 ∙ omega arith) in
-    let e2 : b2 ≡ n / 65536 % 256 = sym (ap (λ q. q % 256) q2 ∙ omega arith) in
-    let e3 : b3 ≡ n / 16777216 % 256 = sym (ap (λ q. q % 256) q3 ∙ omega arith) in
-    let e4 : b4 ≡ kind / 1 % 256 = omega arith in
-    let e5 : b5 ≡ kind / 256 % 256 = omega arith in
-    λ i. e0 i ∷ (e1 i ∷ (e2 i ∷ (e3 i ∷ (e4 i ∷ (e5 i ∷ rest)))))
-
--- a number is the value of its four bytes
-four : (n : ℕ) → n < 2 ^ 32 → n / 1 % 256 + 256 * (n / 256 % 256 + 256 * (n / 65536 % 256 + 256 * (n / 16777216 % 256 + 256 * 0))) ≡ n
-four n fits =
-    let q2 = div-div-eq-div-mul n 256 256 in
-    let q3 = div-div-eq-div-mul n 65536 256 in
-    let low : n / 256 < 2 ^ 24 = omega arith in
-    let mid : n / 65536 < 2 ^ 16 = omega arith in
-    let high : n / 16777216 < 256 = omega arith in
-    let r3 : n / 16777216 % 256 + 256 * 0 ≡ n / 16777216 = omega arith in
-    let r2 : n / 65536 % 256 + 256 * (n / 16777216) ≡ n / 65536 = omega arith in
-    let r1 : n / 256 % 256 + 256 * (n / 65536) ≡ n / 256 = omega arith in
-    ap (λ x. n / 1 % 256 + 256 * (n / 256 % 256 + 256 * (n / 65536 % 256 + 256 * x))) r3
-    ∙ ap (λ x. n / 1 % 256 + 256 * (n / 256 % 256 + 256 * x)) r2
-    ∙ ap (λ x. n / 1 % 256 + 256 * x) r1
-    ∙ omega arith
+frame kind bytes b h = grind (arith, common_steps)
 
 -- what writing puts before the body reads as its length and kind
 pub framed-headed : (kind : ℕ) (body : List ℕ) → kind < 65536 → 4 ≤ length body → 6 + length body < 2 ^ 32 → Headed kind (framed kind body)
-framed-headed kind body small long fits =
-    let n = 6 + length body in
-    record { long = omega arith; whole = four n fits ∙ omega arith; kinded = omega arith }
-
--- four bytes more in front of what follows them
-four-more : (bytes : List ℕ) → 10 ≤ length bytes → drop 6 bytes ≡ get_or bytes 6 0 ∷ (get_or bytes 7 0 ∷ (get_or bytes 8 0 ∷ (get_or bytes 9 0 ∷ drop 10 bytes)))
-four-more bytes h =
-    drop_more bytes 6 0 (omega arith)
-    ∙ ap (λ l. get_or bytes 6 0 ∷ l) (drop_more bytes 7 0 (omega arith) ∙ ap (λ l. get_or bytes 7 0 ∷ l) (drop_more bytes 8 0 (omega arith) ∙ ap (λ l. get_or bytes 8 0 ∷ l) (drop_more bytes 9 0 (omega arith))))
+framed-headed kind body small long fits = grind arith
 
 -- the rest of a key record is its hash key, its masks and its root
 key-rest : (bytes : List ℕ) → 42 ≤ length bytes → drop 10 bytes ≡ hash_key_of bytes ++ (masks_of bytes ++ root_of bytes)
@@ -82,24 +32,21 @@ key-rest bytes h =
     ∙ sym (take-append-drop n (drop 26 bytes))
     ∙ ap (λ l. masks_of bytes ++ l) (drop-drop n 26 bytes ∙ ap (λ k. drop k bytes) end ∙ sym (take_all 16 (drop (length bytes - 16) bytes) last)))
 
-key-parts : (hash code levels : ℕ) (bytes : List ℕ) → Opens hash code levels bytes → KeyParts levels (height_of bytes) (hash_key_of bytes) (masks_of bytes) (root_of bytes)
+pub key-parts : (hash code levels : ℕ) (bytes : List ℕ) → Opens hash code levels bytes → KeyParts levels (height_of bytes) (hash_key_of bytes) (masks_of bytes) (root_of bytes)
 key-parts hash code levels bytes o =
     let laid = o.laid in
     record {
       tall = o.tall;
-      keyed = length-take-le 16 (drop 10 bytes) (rw length-drop (omega arith));
-      masked = length-take-le (length bytes - 42) (drop 26 bytes) (rw length-drop (omega arith)) ∙ omega arith;
+      keyed = grind (arith, common_steps);
+      masked = grind (arith, common_steps);
       rooted = length-take-le 16 (drop (length bytes - 16) bytes) (rw length-drop (omega arith));
     }
 
 key-written : (hash code levels : ℕ) (bytes : List ℕ) → Bytes bytes → Opens hash code levels bytes → bytes ≡ key_bytes hash code (height_of bytes) (hash_key_of bytes) (masks_of bytes) (root_of bytes)
 key-written hash code levels bytes b o =
-    let long = o.headed.long in
     let laid = o.laid in
-    frame 1 bytes b o.headed
-    ∙ ap (framed 1)
-    (four-more bytes long
-    ∙ (λ i. o.hashed i ∷ (o.coded i ∷ (height_of bytes ∷ (o.spared i ∷ key-rest bytes (omega arith) i)))))
+    let rest = key-rest bytes (omega arith) in
+    grind (arith, common_steps)
 
 -- what writing a key yields opens, and has its parts
 module _ (hash code levels h : ℕ) (hash_key masks root : List ℕ) (few : levels ≤ 8) (parts : KeyParts levels h hash_key masks root) where
@@ -107,20 +54,10 @@ module _ (hash code levels h : ℕ) (hash_key masks root : List ℕ) (few : leve
   written = key_bytes hash code h hash_key masks root
 
   rest-length : length (hash_key ++ (masks ++ root)) ≡ 32 + 32 * (h + levels)
-  rest-length = length-append hash_key (masks ++ root) ∙ ap (λ n. length hash_key + n) (length-append masks root) ∙ omega (arith, parts.keyed, parts.masked, parts.rooted)
+  rest-length = grind (arith, common_steps)
 
   pub written-opens : Opens hash code levels written
-  written-opens =
-      let long = rest-length in
-      let tall = parts.tall in
-      record {
-        headed = framed-headed 1 (hash ∷ (code ∷ (h ∷ (0 ∷ (hash_key ++ (masks ++ root)))))) (omega arith) (omega arith) (omega arith);
-        hashed = refl;
-        coded = refl;
-        tall = tall;
-        spared = refl;
-        laid = omega arith;
-      }
+  written-opens = grind (arith, common_steps)
 
   pub written-key : hash_key_of written ≡ hash_key
   written-key = take_at hash_key (masks ++ root) 16 parts.keyed
@@ -140,17 +77,18 @@ module _ (hash code levels h : ℕ) (hash_key masks root : List ℕ) (few : leve
       ap (take 16) (ap (λ n. drop n written) place ∙ sym (drop-drop (length masks) 26 written) ∙ ap (drop (length masks)) written-tail ∙ drop_at masks root (length masks) refl)
       ∙ take_all 16 root (omega (arith, parts.rooted))
 
-pub reads-keys : (hash code levels : ℕ) (bytes : List ℕ) → levels ≤ 8 → Bytes bytes → ReadsKeys hash code levels bytes (open_rule hash code levels bytes)
-reads-keys hash code levels bytes few b = record {
+-- an answer that is the rule's reads as a key what writing that key yields
+pub reads-keys : (hash code levels : ℕ) (bytes : List ℕ) (r : Result Key Refusal) → levels ≤ 8 → Bytes bytes → r ≡ open_rule hash code levels bytes → ReadsKeys hash code levels bytes r
+reads-keys hash code levels bytes r few b is = record {
   written = λ key p.
-      let o = open-to hash code levels bytes key p in
-      let is : height_of bytes ≡ key.height = ap (λ k. k.height) (sym o.1) in (
-        subst (λ h. KeyParts levels h (hash_key_of bytes) (masks_of bytes) (root_of bytes)) is (key-parts hash code levels bytes o.0),
-        key-written hash code levels bytes b o.0 ∙ ap (λ h. key_bytes hash code h (hash_key_of bytes) (masks_of bytes) (root_of bytes)) is,
+      let o = open-to hash code levels bytes key (sym is ∙ p) in
+      let same : height_of bytes ≡ key.height = ap (λ k. k.height) (sym o.1) in (
+        subst (λ h. KeyParts levels h (hash_key_of bytes) (masks_of bytes) (root_of bytes)) same (key-parts hash code levels bytes o.0),
+        key-written hash code levels bytes b o.0 ∙ ap (λ h. key_bytes hash code h (hash_key_of bytes) (masks_of bytes) (root_of bytes)) same,
       );
   read = λ h hash_key masks root parts e.
       let opened = λ (w : List ℕ). open_rule hash code levels w in (
-        ap opened e ∙ open-from hash code levels _ (written-opens hash code levels h hash_key masks root few parts) ∙ ap {B = Result Key Refusal} (λ w. Ok (record { bytes = w; height = h })) (sym e),
+        is ∙ ap opened e ∙ open-from hash code levels _ (written-opens hash code levels h hash_key masks root few parts) ∙ ap {B = Result Key Refusal} (λ w. Ok (record { bytes = w; height = h })) (sym e),
         ap hash_key_of e ∙ written-key hash code levels h hash_key masks root few parts,
         ap masks_of e ∙ written-masks hash code levels h hash_key masks root few parts,
         ap root_of e ∙ written-root hash code levels h hash_key masks root few parts,
@@ -159,14 +97,7 @@ reads-keys hash code levels bytes few b = record {
 
 -- two bytes more in front of what follows them
 leaf-more : (bytes : List ℕ) → 8 ≤ length bytes → Bytes bytes → drop 6 bytes ≡ little_endian 2 (leaf_of bytes) ++ row_of bytes
-leaf-more bytes h b =
-    let low = All-get_or (λ x. x < 256) bytes 6 0 (omega arith) b in
-    let high = All-get_or (λ x. x < 256) bytes 7 0 (omega arith) b in
-    let e0 : get_or bytes 6 0 ≡ leaf_of bytes / 1 % 256 = omega arith in
-    let e1 : get_or bytes 7 0 ≡ leaf_of bytes / 256 % 256 = omega arith in
-    drop_more bytes 6 0 (omega arith)
-    ∙ ap (λ l. get_or bytes 6 0 ∷ l) (drop_more bytes 7 0 (omega arith))
-    ∙ (λ i. e0 i ∷ (e1 i ∷ drop 8 bytes))
+leaf-more bytes h b = grind (arith, common_steps)
 
 -- what writing a release yields is read as that release
 pub written-reads : (hash : ℕ) (code : Code) (key : Key) (leaf : ℕ) (row : List ℕ) → code.count ≤ 256 → suited hash code.number code.levels key ≡ true → ReleaseParts code.count key.height leaf row → read_rule hash code key (release_bytes leaf row) ≡ Ok (record { leaf = leaf; row = row })
@@ -198,3 +129,9 @@ reads-releases hash code key bytes few b suits =
           );
       read = λ leaf row parts e. ap (read_rule hash code key) e ∙ written-reads hash code key leaf row few suits parts;
     }
+
+-- an answer that is the rule's reads as a release what writing that release yields
+pub reads-releases-as : (hash : ℕ) (code : Code) (key : Key) (bytes : List ℕ) (r : Result Shown Refusal) → code.levels ≤ 8 → code.count ≤ 2 ^ code.levels → Bytes bytes → r ≡ read_rule hash code key bytes → suited hash code.number code.levels key ≡ true → ReadsReleases code.count key.height bytes r
+reads-releases-as hash code key bytes r low few b is suits =
+    let small : code.count ≤ 256 = le_trans few (pow_mono {i = code.levels} {j = 8} low) in
+    subst (ReadsReleases code.count key.height bytes) (sym is) (reads-releases hash code key bytes small b suits)

@@ -1,4 +1,5 @@
 pub mod Keys
+pub mod Kinds
 pub mod Reads
 pub mod Records
 pub mod Refusals

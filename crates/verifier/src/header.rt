@@ -1,16 +1,29 @@
 // What both kinds of record begin with.
 ghost use Rattle.std.specs.Prelude.{◌≡◌};
+ghost use Rattle.verifier.specs.Kinds.{kind_number};
 ghost use Rattle.verifier.specs.Rules.{seen, header_rule};
 
 use crate::Refusal;
 
-pub const KEY: u16 = 1;
+// The kinds of record.
+#[derive(Clone, Copy, PartialEq, Eq, Debug)]
+pub enum RecordKind {
+    Key = 1,
+    Release = 2,
+}
 
-pub const RELEASE: u16 = 2;
+impl RecordKind {
+    // The number by which a record names its kind.
+    pub fn number(self) -> u16
+        ensures { result ≡ kind_number self }
+    {
+        self as u16
+    }
+}
 
 // The body of a record of the wanted kind: what follows its length and kind.
-pub fn body_of(bytes: &[u8], kind: u16) -> Result<&[u8], Refusal>
-    ensures { seen (λ x. x.now) result ≡ header_rule kind bytes.now }
+pub fn body_of(bytes: &[u8], kind: RecordKind) -> Result<&[u8], Refusal>
+    ensures { seen (λ x. x.now) result ≡ header_rule (kind_number kind) bytes.now }
 {
     let [a, b, c, d, e, f, body @ ..] = bytes else {
         return Err(Refusal::Length);
@@ -19,7 +32,7 @@ pub fn body_of(bytes: &[u8], kind: u16) -> Result<&[u8], Refusal>
     if bytes.len() < 10 || length as usize != bytes.len() {
         return Err(Refusal::Length);
     }
-    if u16::from_le_bytes([*e, *f]) != kind {
+    if u16::from_le_bytes([*e, *f]) != kind.number() {
         return Err(Refusal::Kind);
     }
     Ok(body)

@@ -1,5 +1,5 @@
 // An opened key: a key record as it lies in the caller's bytes, and its height.
-ghost use Rattle.std.specs.Prelude.{◌≡◌, ◌≤◌, length};
+ghost use Rattle.std.specs.Prelude.{◌≡◌, ◌+◌, ◌*◌, ◌≤◌, length};
 ghost use Rattle.verifier.specs.Records.{hash_key_of, masks_of, root_of};
 
 // Only `open` makes one.
@@ -7,6 +7,8 @@ ghost use Rattle.verifier.specs.Records.{hash_key_of, masks_of, root_of};
 pub struct OpenedKey<'a> {
     pub(crate) bytes: &'a [u8],
     pub(crate) height: u8,
+    pub ghost tall: { (1 ≤ height) × (height ≤ 8) },
+    pub ghost long: { 42 + 32 * height ≤ length bytes.now },
 }
 
 impl<'a> OpenedKey<'a> {
@@ -17,25 +19,22 @@ impl<'a> OpenedKey<'a> {
         self.height
     }
 
-    pub(crate) fn hash_key(&self) -> &'a [u8]
-        requires { 42 ≤ length self.now.bytes.now }
+    pub(crate) fn hash_key(&self) -> &'a [u8; 16]
         ensures { result.now ≡ hash_key_of self.now.bytes.now }
     {
-        &self.bytes[10..26]
+        self.bytes[10..].first_chunk().unwrap()
     }
 
     // The left and right mask of each level, from the root down.
     pub(crate) fn masks(&self) -> &'a [u8]
-        requires { 42 ≤ length self.now.bytes.now }
         ensures { result.now ≡ masks_of self.now.bytes.now }
     {
         &self.bytes[26..self.bytes.len() - 16]
     }
 
-    pub(crate) fn root(&self) -> &'a [u8]
-        requires { 42 ≤ length self.now.bytes.now }
+    pub(crate) fn root(&self) -> &'a [u8; 16]
         ensures { result.now ≡ root_of self.now.bytes.now }
     {
-        &self.bytes[self.bytes.len() - 16..self.bytes.len()]
+        self.bytes.last_chunk().unwrap()
     }
 }

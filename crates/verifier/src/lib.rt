@@ -8,7 +8,7 @@ mod refusal;
 mod release;
 mod verifying;
 
-pub use header::{KEY, RELEASE, body_of};
+pub use header::{RecordKind, body_of};
 pub use key::OpenedKey;
 pub use opening::{open, suits};
 pub use refusal::Refusal;

@@ -4,8 +4,8 @@ ghost use Rattle.verifier.specs.Reads.{ReadsKeys};
 ghost use Rattle.verifier.specs.Rules.{seen, open_rule, suited};
 ghost use Rattle.verifier.specs.Views.{key_of};
 
-use crate::header::{KEY, body_of};
-use crate::{OpenedKey, Refusal};
+use crate::header::body_of;
+use crate::{OpenedKey, RecordKind, Refusal};
 use codes::Code;
 use hashes::ChainHash;
 
@@ -14,12 +14,12 @@ pub fn open<H: ChainHash, C: Code>(bytes: &[u8]) -> Result<OpenedKey<'_>, Refusa
     ensures answer { seen key_of result ≡ open_rule H.ChainHash.NUMBER C.Code.NUMBER C.Code.LEVELS bytes.now }
     ensures reads { ReadsKeys H.ChainHash.NUMBER C.Code.NUMBER C.Code.LEVELS bytes.now (seen key_of result) }
 {
-    let body = body_of(bytes, KEY)?;
+    let body = body_of(bytes, RecordKind::Key)?;
     if body[0] != H::NUMBER || body[1] != C::NUMBER {
         return Err(Refusal::Parameters);
     }
     let height = body[2];
-    if height < 1 || height > 8 || body[3] != 0 {
+    if !(1..=8).contains(&height) || body[3] != 0 {
         return Err(Refusal::Height);
     }
     if bytes.len() != 42 + 32 * (height as usize + C::LEVELS as usize) {
@@ -33,8 +33,5 @@ pub fn suits<H: ChainHash, C: Code>(key: &OpenedKey<'_>) -> bool
     ensures answer { result ≡ suited H.ChainHash.NUMBER C.Code.NUMBER C.Code.LEVELS (key_of key.now) }
     ensures opened { (hash code levels : ℕ) → open_rule hash code levels (key_of key.now).bytes ≡ Ok (key_of key.now) → Decides result ((hash ≡ H.ChainHash.NUMBER) × (code ≡ C.Code.NUMBER) × (levels ≡ C.Code.LEVELS)) }
 {
-    match open::<H, C>(key.bytes) {
-        Ok(same) => same.height == key.height,
-        Err(_) => false,
-    }
+    matches!(open::<H, C>(key.bytes), Ok(same) if same.height == key.height)
 }

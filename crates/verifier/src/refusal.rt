@@ -1,8 +1,11 @@
 // Why a call refuses.
-ghost use Rattle.std.specs.Prelude.{◌≡◌};
+ghost use Rattle.std.specs.Prelude.{◌≡◌, Some};
+ghost use Rattle.std.specs.Fmt.{decimal};
 ghost use Rattle.verifier.specs.Refusals.{refusal_number};
 
-#[derive(Clone, Copy, PartialEq, Debug)]
+use std::fmt;
+
+#[derive(Clone, Copy, PartialEq, Eq, Debug)]
 pub enum Refusal {
     // A plan's height outside 1 to 8.
     Plan = 1,
@@ -38,3 +41,14 @@ impl Refusal {
         self as u8
     }
 }
+
+// A refusal prints as its number.
+impl fmt::Display for Refusal {
+    ghost output = { λ refusal. Some (decimal (refusal_number refusal)) };
+
+    fn fmt<W: fmt::Write>(&self, f: &mut fmt::Formatter<W>) -> fmt::Result {
+        self.number().fmt(f)
+    }
+}
+
+impl std::error::Error for Refusal {}

@@ -1,13 +1,13 @@
 // Reading a release record.
-ghost use Rattle.std.specs.Prelude.{◌≡◌, ◌≤◌, true, length, drop};
+ghost use Rattle.std.specs.Prelude.{◌≡◌, ℕ, ◌≤◌, true, List, drop};
 ghost use Rattle.tree.specs.Meaning.{code_of};
 ghost use Rattle.verifier.specs.Reads.{ReadsReleases};
 ghost use Rattle.verifier.specs.Rules.{seen, suited, parts_rule, read_rule, own_rule};
 ghost use Rattle.verifier.specs.Views.{key_of, shown_by};
 
-use crate::header::{RELEASE, body_of};
+use crate::header::body_of;
 use crate::opening::suits;
-use crate::{OpenedKey, Refusal};
+use crate::{OpenedKey, RecordKind, Refusal};
 use codes::Code;
 use hashes::ChainHash;
 
@@ -19,24 +19,22 @@ pub struct Release<'a> {
     pub row: &'a [u8],
 }
 
-// The leaf number and the strings of a release record under a key of a height; `body` is what follows its length and kind.
-fn parts_of<'a, C: Code>(height: u8, bytes: &[u8], body: &'a [u8]) -> Result<Release<'a>, Refusal>
-    requires tall { height ≤ 8 }
-    requires long { 10 ≤ length bytes.now }
-    requires rest { body.now ≡ drop 6 bytes.now }
-    ensures { seen shown_by result ≡ parts_rule C.Code.COUNT height bytes.now }
+// The leaf number and the strings in the body of a release record under a key of a height.
+fn parts_of<C: Code>(height: u8, body: &[u8]) -> Result<Release<'_>, Refusal>
+    requires { height ≤ 8 }
+    ensures { (bytes : List ℕ) → body.now ≡ drop 6 bytes → seen shown_by result ≡ parts_rule C.Code.COUNT height bytes }
 {
-    if bytes.len() != 8 + 16 * (C::COUNT + height as usize) {
+    let [low, high, row @ ..] = body else {
+        return Err(Refusal::Layout);
+    };
+    if row.len() != 16 * (C::COUNT + height as usize) {
         return Err(Refusal::Layout);
     }
-    let leaf = u16::from_le_bytes([body[0], body[1]]);
+    let leaf = u16::from_le_bytes([*low, *high]);
     if leaf >= 1 << height {
         return Err(Refusal::Leaf);
     }
-    Ok(Release {
-        leaf,
-        row: &body[2..body.len()],
-    })
+    Ok(Release { leaf, row })
 }
 
 // Reads a release record as it lies in `bytes`, under an opened key.
@@ -47,11 +45,11 @@ pub fn read_release<'a, H: ChainHash, C: Code>(
     ensures answer { seen shown_by result ≡ read_rule H.ChainHash.NUMBER (code_of C.Code) (key_of key.now) bytes.now }
     ensures reads { suited H.ChainHash.NUMBER C.Code.NUMBER C.Code.LEVELS (key_of key.now) ≡ true → ReadsReleases C.Code.COUNT key.now.height bytes.now (seen shown_by result) }
 {
-    let body = body_of(bytes, RELEASE)?;
+    let body = body_of(bytes, RecordKind::Release)?;
     if !suits::<H, C>(key) {
         return Err(Refusal::Parameters);
     }
-    parts_of::<C>(key.height, bytes, body)
+    parts_of::<C>(key.height, body)
 }
 
 // Reads a release record as it lies in `bytes`, for its own signer, whose key has this height.
@@ -59,6 +57,6 @@ pub fn read_own<C: Code>(height: u8, bytes: &[u8]) -> Result<Release<'_>, Refusa
     requires { height ≤ 8 }
     ensures { seen shown_by result ≡ own_rule C.Code.COUNT height bytes.now }
 {
-    let body = body_of(bytes, RELEASE)?;
-    parts_of::<C>(height, bytes, body)
+    let body = body_of(bytes, RecordKind::Release)?;
+    parts_of::<C>(height, body)
 }

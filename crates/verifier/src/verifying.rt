@@ -9,7 +9,7 @@ use crate::{OpenedKey, Refusal};
 use codes::Code;
 use hashes::TreeHash;
 use std::marker::PhantomData;
-use strings::{same, string_at};
+use strings::same;
 use tree::nodes::Joiner;
 
 // The leaf number of a release record that is good for the stamp under the opened key.
@@ -21,15 +21,13 @@ pub fn verify<H: TreeHash, C: Code>(
     ensures { result ≡ verify_rule (hash_of H.ChainHash H.TreeHash.own) (code_of C.Code) (key_of key.now) stamp.now bytes.now }
 {
     let release = read_release::<H, C>(key, bytes)?;
-    let hash_key = string_at(key.hash_key(), 0);
     let joiner: Joiner<'_, H> = Joiner {
-        key: &hash_key,
+        key: key.hash_key(),
         masks: key.masks(),
         hash: PhantomData,
     };
     let root = joiner.rebuild_root::<C>(key.height as usize, release.leaf, stamp, release.row);
-    let wanted = string_at(key.root(), 0);
-    if !same(&root, &wanted) {
+    if !same(&root, key.root()) {
         return Err(Refusal::Root);
     }
     Ok(release.leaf)

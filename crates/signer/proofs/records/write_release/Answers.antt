@@ -12,8 +12,9 @@ returns g c =
     let size = release_length g.C.Code.COUNT c.args.tree.now.origin.now.height in
     let is : 8 + 16 * (c.COUNT.result + c.args.tree.now.origin.now.height) ≡ size = ap (λ n. release_length n c.args.tree.now.origin.now.height) c.COUNT.ensures in
     let first : c.to_le_bytes.result ≡ little_endian 4 (8 + 16 * (c.COUNT.result + c.args.tree.now.origin.now.height)) = search rules in
+    let second : c.to_le_bytes-2.result ≡ little_endian 2 2 = search rules in
     let number : c.to_le_bytes-3.result ≡ little_endian 2 c.args.leaf = search rules in
     release-is c.args.out.now c.put.new.bytes c.put-2.new.bytes c.put-3.new.bytes c.write_shown.new.out c.to_le_bytes.result c.to_le_bytes-2.result c.to_le_bytes-3.result row size c.args.leaf
-    (omega (arith, c.write_shown.ensures.long)) c.requires.room (first ∙ ap (little_endian 4) is) c.to_le_bytes-2.ensures number
+    (omega (arith, c.write_shown.ensures.long)) c.requires.room (first ∙ ap (little_endian 4) is) second number
     (c.put.ensures.front, c.put.ensures.back) (c.put-2.ensures.front, c.put-2.ensures.back) (c.put-3.ensures.front, c.put-3.ensures.back)
     c.write_shown.ensures.after
