@@ -1,2 +1,3 @@
 pub mod Known
 pub mod Names
+pub mod Tasks

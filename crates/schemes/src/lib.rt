@@ -5,4 +5,4 @@ mod names;
 mod task;
 
 pub use names::{CodeName, HashName};
-pub use task::{Task, run};
+pub use task::{Task, run, run_numbered};
