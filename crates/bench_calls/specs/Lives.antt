@@ -18,6 +18,12 @@ numbered (Some hash) (Some code) none by = by hash code
 numbered (Some hash) None none by = none
 numbered None code none by = none
 
+-- what holds by the hash and the code with these numbers; `none` where one of them is not known
+abbrev pub Numbered : Option Hash → Option Code → Type 0 → (Hash → Code → Type 0) → Type 0
+Numbered (Some hash) (Some code) none by = by hash code
+Numbered (Some hash) None none by = none
+Numbered None code none by = none
+
 -- a refusal's number and zeros; or 0 and the numbers of an answer
 abbrev pub refused_reply : Refusal → Reply
 refused_reply e = record { first = 0; second = 0; third = 0; refusal = refusal_number e }

@@ -1,14 +1,26 @@
 // The calls on whole keys. Hash and code go by their numbers, of which an unknown one is refused with 8. Nothing of a key stays
 // between two calls: each lives a key's life from its source on.
 ghost use Rattle.std.specs.Prelude.{◌≡◌, Err};
-ghost use Rattle.bench_calls.specs.Lives.{numbered, one_reply, two_reply, three_reply, verified, grown, grown_node, keyed, keyed_output, signed, signed_output, traced, traced_report};
+ghost use Rattle.bench_calls.specs.Lives.{Numbered, numbered, one_reply, two_reply, three_reply, verified, grown, grown_node, keyed, keyed_output, signed, signed_output, traced, traced_report};
 ghost use Rattle.schemes.specs.Known.{hash_numbered, code_numbered};
 ghost use Rattle.verifier.specs.declared.refusal.Refusal.TheVariants.{Parameters};
 
 use crate::lives::{Grow, Key, Sign, Trace, Verify};
 use crate::reply::Reply;
 use crate::source::Source;
-use schemes::run_numbered;
+use schemes::{Scheme, Task};
+use verifier::Refusal;
+
+// Does the work with the hash and the code that have these numbers. An unknown number is refused, and the task stays as it was.
+fn run_numbered<A, T: Task<Output = Result<A, Refusal>>>(
+    hash: u8,
+    code: u8,
+    task: &mut T,
+) -> Result<A, Refusal>
+    ensures { Numbered (hash_numbered hash) (code_numbered code) ((result ≡ Err Parameters) × (task.new ≡ task.old)) (λ h c. T.gives task.old h c result task.new) }
+{
+    Scheme::numbered(hash, code)?.run(task)
+}
 
 // Opens a key record, and verifies a release record under it: the leaf.
 #[unsafe(no_mangle)]

@@ -1,8 +1,8 @@
-// The hashes and codes that records name by number, and work that is done for any of them.
+// The hashes and codes that records name by number, and work that is done with any of them.
 #![tactic(auto)]
 
 mod names;
-mod task;
+mod scheme;
 
 pub use names::{CodeName, HashName};
-pub use task::{Task, run, run_numbered};
+pub use scheme::{Scheme, Task};
