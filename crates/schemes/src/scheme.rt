@@ -1,5 +1,5 @@
 // A hash and a code, and work that is done with any of them.
-ghost use Rattle.std.specs.Prelude.{◌≡◌};
+ghost use Rattle.std.specs.Prelude.{◌≡◌, ⊤};
 ghost use Rattle.schemes.specs.Names.{hash_named, code_named, scheme_numbered};
 ghost use Rattle.tree.specs.Meaning.{Hash, Code, hash_of, code_of};
 
@@ -15,7 +15,7 @@ pub trait Task {
     type Output;
 
     // Relates the task before the work, the hash and the code, the answer, and the task after the work.
-    ghost gives: { Self → Hash → Code → Self.Output → Self → Type 0 };
+    ghost gives: { Self → Hash → Code → Self.Output → Self → Type 0 } = { λ _ _ _ _ _. ⊤ };
 
     fn run<H: TreeHash, C: Code>(&mut self) -> Self::Output
         ensures { gives self.old (hash_of H.ChainHash H.TreeHash.own) (code_of C.Code) result self.new };
