@@ -28,7 +28,7 @@ pub use source::Source;
 fn byte_at(string: &[u8; 16], place: usize) -> u8
     ensures { result ≡ slice_index string.now place }
 {
-    if place < 16 { string[place] } else { 0 }
+    string.get(place).copied().unwrap_or(0)
 }
 
 fn steps<H: ChainHash>(key: &[u8], string: &[u8], turns: u8, place: usize) -> u8

@@ -15,7 +15,6 @@ use codes::Code;
 use hashes::TreeHash;
 use schemes::{Scheme, Task};
 use std::alloc::{AllocError, Global};
-use strings::string_at;
 use verifier::{KEY, OpenedKey, Refusal, body_of, open, verify};
 
 // The outcome of the first order in `bytes`, and the bytes of the others.
@@ -27,12 +26,11 @@ fn check_order<'a, H: TreeHash, C: Code>(
     ensures first { (answers : List (Result ℕ Refusal)) → Outcomes (verify_rule (hash_of H.ChainHash H.TreeHash.own) (code_of C.Code) (key_of key.now)) result.1.now answers → Outcomes (verify_rule (hash_of H.ChainHash H.TreeHash.own) (code_of C.Code) (key_of key.now)) bytes.now (result.0 ∷ answers) }
     ensures fewer { length result.1.now < length bytes.now }
 {
-    if bytes.len() < 16 {
-        return (Err(Refusal::Length), &bytes[bytes.len()..bytes.len()]);
-    }
-    let (record, others) = split_record(&bytes[16..bytes.len()]);
-    let outcome = verify::<H, C>(key, &string_at(bytes, 0), record);
-    (outcome, others)
+    let Some((stamp, rest)) = bytes.split_first_chunk::<16>() else {
+        return (Err(Refusal::Length), &[]);
+    };
+    let (record, others) = split_record(rest);
+    (verify::<H, C>(key, stamp, record), others)
 }
 
 // The outcome of each order in `bytes`.

@@ -113,21 +113,6 @@ impl Task for Serve<'_, '_> {
     }
 }
 
-fn serve_begin(
-    rt: &HostRuntime,
-    input: &mut Input,
-    begin: &Begin,
-    start: Start,
-) -> anyhow::Result<Next> {
-    let plan = start.plan;
-    start.scheme.run(&mut Serve {
-        rt,
-        input,
-        begin,
-        plan,
-    })
-}
-
 // Before the first begin no call is answered.
 fn idle(rt: &HostRuntime) -> anyhow::Result<()> {
     let answer = Answer::NotNow;
@@ -140,7 +125,12 @@ fn main(rt: HostRuntime) -> anyhow::Result<()> {
     let mut next = listen(&rt, &mut input)?;
     for _ in 0..u64::MAX {
         next = match next {
-            Next::Begin(begin, start) => serve_begin(&rt, &mut input, &begin, start)?,
+            Next::Begin(begin, start) => start.scheme.run(&mut Serve {
+                rt: &rt,
+                input: &mut input,
+                begin: &begin,
+                plan: start.plan,
+            })?,
             Next::Call(_) => {
                 idle(&rt)?;
                 listen(&rt, &mut input)?
