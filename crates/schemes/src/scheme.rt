@@ -14,7 +14,8 @@ use verifier::Refusal;
 pub trait Task {
     type Output;
 
-    // Relates the task before the work, the hash and the code, the answer, and the task after the work.
+    // Relates the task before the work, the hash and the code, the answer, and the task after the work. What the work writes
+    // through a reference of the task is said by `Wrote`.
     ghost gives: { Self → Hash → Code → Self.Output → Self → Type 0 } = { λ _ _ _ _ _. ⊤ };
 
     fn run<H: TreeHash, C: Code>(&mut self) -> Self::Output
