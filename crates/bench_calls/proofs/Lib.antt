@@ -1,2 +1,1 @@
 mod Grows
-mod Strings

@@ -18,21 +18,29 @@ numbered (Some hash) (Some code) none by = by hash code
 numbered (Some hash) None none by = none
 numbered None code none by = none
 
--- a refusal's number and zeros; or 0 and the numbers of an answer, zeros after them
+-- what holds by the hash and the code with these numbers; `none` where one of them is not known
+abbrev pub Numbered : Option Hash → Option Code → Type 0 → (Hash → Code → Type 0) → Type 0
+Numbered (Some hash) (Some code) none by = by hash code
+Numbered (Some hash) None none by = none
+Numbered None code none by = none
+
+-- a refusal's number and zeros; or 0 and the numbers of an answer
 abbrev pub refused_reply : Refusal → Reply
 refused_reply e = record { first = 0; second = 0; third = 0; refusal = refusal_number e }
 
+abbrev pub reply_of : {A : Type 0} → (A → ℕ × ℕ × ℕ) → Result A Refusal → Reply
+reply_of numbers (Ok x) = record { first = (numbers x).0; second = (numbers x).1; third = (numbers x).2; refusal = 0 }
+reply_of numbers (Err e) = refused_reply e
+
+-- replies with one, two and three numbers, zeros after them
 abbrev pub one_reply : Result ℕ Refusal → Reply
-one_reply (Ok n) = record { first = n; second = 0; third = 0; refusal = 0 }
-one_reply (Err e) = refused_reply e
+one_reply = reply_of (λ n. (n, 0, 0))
 
 abbrev pub two_reply : Result (ℕ × ℕ) Refusal → Reply
-two_reply (Ok x) = record { first = x.0; second = x.1; third = 0; refusal = 0 }
-two_reply (Err e) = refused_reply e
+two_reply = reply_of (λ x. (x.0, x.1, 0))
 
 abbrev pub three_reply : Result (ℕ × ℕ × ℕ) Refusal → Reply
-three_reply (Ok x) = record { first = x.0; second = x.1; third = x.2; refusal = 0 }
-three_reply (Err e) = refused_reply e
+three_reply = reply_of (λ x. x)
 
 -- what is left of a buffer: as it was, where there is a refusal
 abbrev pub left_by : {A : Type 0} → Result A Refusal → List ℕ → (A → List ℕ) → List ℕ

@@ -11,7 +11,6 @@ ghost use Rattle.aes128.specs.Cipher.{aes_step, aes_pair};
 use aes128::Aes128Hash;
 use hashes::{ChainHash, TreeHash};
 use sha256::Sha256Hash;
-use strings::string_at;
 use tree::chains::climb_chain;
 
 mod calls;
@@ -28,18 +27,17 @@ pub use source::Source;
 fn byte_at(string: &[u8; 16], place: usize) -> u8
     ensures { result ≡ slice_index string.now place }
 {
-    if place < 16 { string[place] } else { 0 }
+    string.get(place).copied().unwrap_or(0)
 }
 
 fn steps<H: ChainHash>(key: &[u8], string: &[u8], turns: u8, place: usize) -> u8
     ensures answered { length key.now ≡ 16 → length string.now ≡ 16 → result ≡ slice_index (raise (H.ChainHash.steps key.now) turns string.now) place }
     ensures refused { (length key.now ≡ 16 → length string.now ≢ 16) → result ≡ 0 }
 {
-    if key.len() != 16 || string.len() != 16 {
+    let (Ok(key), Ok(string)) = (<&[u8; 16]>::try_from(key), <&[u8; 16]>::try_from(string)) else {
         return 0;
-    }
-    let last = climb_chain::<H>(&string_at(key, 0), &string_at(string, 0), turns);
-    byte_at(&last, place)
+    };
+    byte_at(&climb_chain::<H>(key, string, turns), place)
 }
 
 // `turns` pairs, from `left` on: each of the last string and `right`.
@@ -58,16 +56,13 @@ fn pairs<H: TreeHash>(key: &[u8], left: &[u8], right: &[u8], turns: u8, place: u
     ensures answered { length key.now ≡ 16 → length left.now ≡ 16 → length right.now ≡ 16 → result ≡ slice_index (raise (λ s. H.TreeHash.pairs key.now s right.now) turns left.now) place }
     ensures refused { (length key.now ≡ 16 → length left.now ≡ 16 → length right.now ≢ 16) → result ≡ 0 }
 {
-    if key.len() != 16 || left.len() != 16 || right.len() != 16 {
+    let (Ok(key), Ok(left)) = (<&[u8; 16]>::try_from(key), <&[u8; 16]>::try_from(left)) else {
         return 0;
-    }
-    let last = join_on::<H>(
-        &string_at(key, 0),
-        &string_at(left, 0),
-        &string_at(right, 0),
-        turns,
-    );
-    byte_at(&last, place)
+    };
+    let Ok(right) = <&[u8; 16]>::try_from(right) else {
+        return 0;
+    };
+    byte_at(&join_on::<H>(key, left, right, turns), place)
 }
 
 #[unsafe(no_mangle)]

@@ -1,6 +1,7 @@
-// Parts of a key's life, from its source on.
+// Parts of a key's life, from its source on, for any hash and code.
 ghost use Rattle.std.specs.Prelude.{◌≡◌};
 ghost use Rattle.bench_calls.specs.Lives.{begun, grows, grown, grown_node, finished, keyed, keyed_output, serving, signed, signed_output, traced, traced_report, verified};
+ghost use Rattle.schemes.specs.Tasks.{Wrote};
 ghost use Rattle.signer.specs.Views.{making_of, signing_of};
 ghost use Rattle.tree.specs.Meaning.{hash_of, code_of};
 ghost use Rattle.verifier.specs.Rules.{seen};
@@ -8,20 +9,28 @@ ghost use Rattle.verifier.specs.Rules.{seen};
 use crate::source::Source;
 use codes::Code;
 use hashes::TreeHash;
+use schemes::Task;
 use signer::{Maker, Plan, Signer};
 use verifier::{Refusal, open, verify};
 
 // Opens a key record, and verifies a release record under it.
-pub fn verify_with<H: TreeHash, C: Code>(
-    key: &[u8],
-    stamp: &[u8; 16],
-    record: &[u8],
-) -> Result<usize, Refusal>
-    ensures { result ≡ verified (hash_of H.ChainHash H.TreeHash.own) (code_of C.Code) key.now stamp.now «record».now }
-{
-    let opened = open::<H, C>(key)?;
-    let leaf = verify::<H, C>(&opened, stamp, record)?;
-    Ok(leaf as usize)
+#[derive(Drop)]
+pub struct Verify<'a> {
+    pub key: &'a [u8],
+    pub stamp: &'a [u8; 16],
+    pub release: &'a [u8],
+}
+
+impl Task for Verify<'_> {
+    type Output = Result<usize, Refusal>;
+
+    ghost gives = { λ before h c result after. result ≡ verified h c before.key.now before.stamp.now before.release.now };
+
+    fn run<H: TreeHash, C: Code>(&mut self) -> Result<usize, Refusal> {
+        let opened = open::<H, C>(self.key)?;
+        let leaf = verify::<H, C>(&opened, self.stamp, self.release)?;
+        Ok(leaf as usize)
+    }
 }
 
 // Plans and begins a key.
@@ -43,24 +52,30 @@ fn grow_on<H: TreeHash, C: Code>(maker: &mut Maker<H, C>, leaves: u16)
 }
 
 // Begins a key and grows `leaves` leaves; says whether a node is held at the level, with its position, and writes it.
-pub fn grow_with<H: TreeHash, C: Code>(
-    source: &Source,
-    leaves: u16,
-    level: u8,
-    node: &mut [u8; 16],
-) -> Result<(usize, u16), Refusal>
-    ensures answer { result ≡ grown (hash_of H.ChainHash H.TreeHash.own) (code_of C.Code) source.now leaves level }
-    ensures output { node.new ≡ grown_node (hash_of H.ChainHash H.TreeHash.own) (code_of C.Code) source.now leaves level node.old }
-{
-    let mut maker = begin::<H, C>(source)?;
-    grow_on::<H, C>(&mut maker, leaves);
-    match maker.held(level) {
-        Some(held) => {
-            let string = held.1;
-            *node = string;
-            Ok((1, held.0))
+#[derive(Drop)]
+pub struct Grow<'a, 'o> {
+    pub source: &'a Source,
+    pub leaves: u16,
+    pub level: u8,
+    pub node: &'o mut [u8; 16],
+}
+
+impl Task for Grow<'_, '_> {
+    type Output = Result<(usize, u16), Refusal>;
+
+    ghost gives = { λ before h c result after. (result ≡ grown h c before.source.now before.leaves before.level) × Wrote before.node (grown_node h c before.source.now before.leaves before.level before.node.now) after.node };
+
+    fn run<H: TreeHash, C: Code>(&mut self) -> Result<(usize, u16), Refusal> {
+        let mut maker = begin::<H, C>(self.source)?;
+        grow_on::<H, C>(&mut maker, self.leaves);
+        match maker.held(self.level) {
+            Some(held) => {
+                let string = held.1;
+                *self.node = string;
+                Ok((1, held.0))
+            }
+            None => Ok((0, 0)),
         }
-        None => Ok((0, 0)),
     }
 }
 
@@ -76,20 +91,26 @@ fn finish<H: TreeHash, C: Code>(
 }
 
 // Begins and finishes a key, and writes its key record `turns` times and once more.
-pub fn key_with<H: TreeHash, C: Code>(
-    source: &Source,
-    turns: u32,
-    out: &mut [u8],
-) -> Result<usize, Refusal>
-    ensures answer { result ≡ keyed (hash_of H.ChainHash H.TreeHash.own) (code_of C.Code) source.now turns out.old }
-    ensures output { out.new ≡ keyed_output (hash_of H.ChainHash H.TreeHash.own) (code_of C.Code) source.now turns out.old }
-{
-    let mut work = [0; 4096];
-    let signer = finish::<H, C>(source, &mut work)?;
-    for _ in 0..turns {
-        let _ = signer.key(out);
+#[derive(Drop)]
+pub struct Key<'a, 'o> {
+    pub source: &'a Source,
+    pub turns: u32,
+    pub out: &'o mut [u8],
+}
+
+impl Task for Key<'_, '_> {
+    type Output = Result<usize, Refusal>;
+
+    ghost gives = { λ before h c result after. (result ≡ keyed h c before.source.now before.turns before.out.now) × Wrote before.out (keyed_output h c before.source.now before.turns before.out.now) after.out };
+
+    fn run<H: TreeHash, C: Code>(&mut self) -> Result<usize, Refusal> {
+        let mut work = [0; 4096];
+        let signer = finish::<H, C>(self.source, &mut work)?;
+        for _ in 0..self.turns {
+            let _ = signer.key(self.out);
+        }
+        signer.key(self.out)
     }
-    signer.key(out)
 }
 
 // Begins and finishes a key, and skips to a leaf.
@@ -106,35 +127,47 @@ fn serve<H: TreeHash, C: Code>(
 }
 
 // Begins and finishes a key, skips to a leaf, and signs.
-pub fn sign_with<H: TreeHash, C: Code>(
-    source: &Source,
-    leaf: u16,
-    stamp: &[u8; 16],
-    out: &mut [u8],
-) -> Result<(usize, u16), Refusal>
-    ensures answer { result ≡ signed (hash_of H.ChainHash H.TreeHash.own) (code_of C.Code) source.now leaf out.old }
-    ensures output { out.new ≡ signed_output (hash_of H.ChainHash H.TreeHash.own) (code_of C.Code) source.now leaf stamp.now out.old }
-{
-    let mut work = [0; 4096];
-    let mut signer = serve::<H, C>(source, leaf, &mut work)?;
-    signer.sign(stamp, out, &mut work)
+#[derive(Drop)]
+pub struct Sign<'a, 'o> {
+    pub source: &'a Source,
+    pub leaf: u16,
+    pub stamp: &'a [u8; 16],
+    pub out: &'o mut [u8],
+}
+
+impl Task for Sign<'_, '_> {
+    type Output = Result<(usize, u16), Refusal>;
+
+    ghost gives = { λ before h c result after. (result ≡ signed h c before.source.now before.leaf before.out.now) × Wrote before.out (signed_output h c before.source.now before.leaf before.stamp.now before.out.now) after.out };
+
+    fn run<H: TreeHash, C: Code>(&mut self) -> Result<(usize, u16), Refusal> {
+        let mut work = [0; 4096];
+        let mut signer = serve::<H, C>(self.source, self.leaf, &mut work)?;
+        signer.sign(self.stamp, self.out, &mut work)
+    }
 }
 
 // Begins and finishes a key, skips to a leaf, signs the stamp `spent` there, and traces a record for `stamp`.
-pub fn trace_with<H: TreeHash, C: Code>(
-    source: &Source,
-    leaf: u16,
-    spent: &[u8; 16],
-    stamp: &[u8; 16],
-    record: &[u8],
-    report: &mut [u8; 64],
-) -> Result<(u8, u16, u16), Refusal>
-    ensures answer { result ≡ traced (hash_of H.ChainHash H.TreeHash.own) (code_of C.Code) source.now leaf spent.now stamp.now «record».now }
-    ensures output { report.new ≡ traced_report (hash_of H.ChainHash H.TreeHash.own) (code_of C.Code) source.now leaf spent.now stamp.now «record».now report.old }
-{
-    let mut work = [0; 4096];
-    let mut signer = serve::<H, C>(source, leaf, &mut work)?;
-    let mut out = [0; 4232];
-    let _ = signer.sign(spent, &mut out, &mut work);
-    signer.trace(stamp, record, report, &mut work)
+#[derive(Drop)]
+pub struct Trace<'a, 'o> {
+    pub source: &'a Source,
+    pub leaf: u16,
+    pub spent: &'a [u8; 16],
+    pub stamp: &'a [u8; 16],
+    pub release: &'a [u8],
+    pub report: &'o mut [u8; 64],
+}
+
+impl Task for Trace<'_, '_> {
+    type Output = Result<(u8, u16, u16), Refusal>;
+
+    ghost gives = { λ before h c result after. (result ≡ traced h c before.source.now before.leaf before.spent.now before.stamp.now before.release.now) × Wrote before.report (traced_report h c before.source.now before.leaf before.spent.now before.stamp.now before.release.now before.report.now) after.report };
+
+    fn run<H: TreeHash, C: Code>(&mut self) -> Result<(u8, u16, u16), Refusal> {
+        let mut work = [0; 4096];
+        let mut signer = serve::<H, C>(self.source, self.leaf, &mut work)?;
+        let mut out = [0; 4232];
+        let _ = signer.sign(self.spent, &mut out, &mut work);
+        signer.trace(self.stamp, self.release, self.report, &mut work)
+    }
 }

@@ -1,6 +1,5 @@
 // What a call on a whole key answers.
-ghost use Rattle.std.specs.Prelude.{◌≡◌};
-ghost use Rattle.bench_calls.specs.Lives.{refused_reply, one_reply, two_reply, three_reply};
+ghost use Rattle.std.specs.Prelude.{◌≡◌, ℕ};
 
 use verifier::Refusal;
 
@@ -14,55 +13,62 @@ pub struct Reply {
     pub refusal: u8,
 }
 
-fn refused(refusal: Refusal) -> Reply
-    ensures { result ≡ refused_reply refusal }
-{
-    Reply {
-        first: 0,
-        second: 0,
-        third: 0,
-        refusal: refusal.number(),
+// An answer of up to three numbers.
+pub trait Numbers {
+    ghost numbers: { Self → ℕ × ℕ × ℕ };
+
+    // The numbers, zeros after them.
+    fn numbers(self) -> (usize, u16, u16)
+        ensures { result ≡ numbers self };
+}
+
+impl Numbers for usize {
+    ghost numbers = { λ x. (x, 0, 0) };
+
+    fn numbers(self) -> (usize, u16, u16) {
+        (self, 0, 0)
     }
 }
 
-pub fn one_number(answer: Result<usize, Refusal>) -> Reply
-    ensures { result ≡ one_reply answer }
-{
-    match answer {
-        Ok(first) => Reply {
-            first,
-            second: 0,
-            third: 0,
-            refusal: 0,
-        },
-        Err(refusal) => refused(refusal),
+impl Numbers for (usize, u16) {
+    ghost numbers = { λ x. (x.0, x.1, 0) };
+
+    fn numbers(self) -> (usize, u16, u16) {
+        (self.0, self.1, 0)
     }
 }
 
-pub fn two_numbers(answer: Result<(usize, u16), Refusal>) -> Reply
-    ensures { result ≡ two_reply answer }
-{
-    match answer {
-        Ok((first, second)) => Reply {
-            first,
-            second,
-            third: 0,
-            refusal: 0,
-        },
-        Err(refusal) => refused(refusal),
+impl Numbers for (u8, u16, u16) {
+    ghost numbers = { λ x. x };
+
+    fn numbers(self) -> (usize, u16, u16) {
+        (self.0 as usize, self.1, self.2)
     }
 }
 
-pub fn three_numbers(answer: Result<(u8, u16, u16), Refusal>) -> Reply
-    ensures { result ≡ three_reply answer }
-{
-    match answer {
-        Ok((first, second, third)) => Reply {
-            first: first as usize,
-            second,
-            third,
-            refusal: 0,
-        },
-        Err(refusal) => refused(refusal),
+impl<A: Numbers> From<Result<A, Refusal>> for Reply {
+    ghost use Rattle.std.specs.Prelude.{◌≡◌};
+    ghost use Rattle.bench_calls.specs.Lives.{reply_of};
+
+    ghost from_gives = { λ answer reply. reply ≡ reply_of A.numbers answer };
+
+    fn from(answer: Result<A, Refusal>) -> Reply {
+        match answer {
+            Ok(numbers) => {
+                let (first, second, third) = numbers.numbers();
+                Reply {
+                    first,
+                    second,
+                    third,
+                    refusal: 0,
+                }
+            }
+            Err(refusal) => Reply {
+                first: 0,
+                second: 0,
+                third: 0,
+                refusal: refusal.number(),
+            },
+        }
     }
 }

@@ -7,7 +7,7 @@ use Rattle.verifier.specs.Records.{hash_number_of, code_number_of}
 use Rattle.verifier.specs.Rules.{header_rule, open_rule, verify_rule}
 use Rattle.verifier.specs.declared.refusal.Refusal.{Refusal}
 use Rattle.verifier.specs.declared.refusal.Refusal.TheVariants.{Parameters}
-use Rattle.orders.specs.Known.{hash_numbered, code_numbered}
+use Rattle.schemes.specs.Known.{hash_numbered, code_numbered}
 use Rattle.orders.specs.Outcomes.{Outcomes, first_record, after_record}
 use Rattle.orders.specs.declared.report.Report.{Report}
 

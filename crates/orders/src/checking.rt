@@ -1,6 +1,6 @@
 // From bytes to outcomes.
-ghost use Rattle.std.specs.Prelude.{◌≡◌, ℕ, ◌<◌, List, ◌∷◌, length, IfOk, Some, Result, OnErr, slice_index};
-ghost use Rattle.orders.specs.Known.{hash_numbered, code_numbered};
+ghost use Rattle.std.specs.Prelude.{◌≡◌, ℕ, ◌<◌, List, ◌∷◌, length, IfOk, Result, OnErr, slice_index};
+ghost use Rattle.schemes.specs.Known.{hash_numbered, code_numbered};
 ghost use Rattle.orders.specs.Outcomes.{Outcomes, after_record};
 ghost use Rattle.orders.specs.Reports.{Refused, Checked, CheckedBy, Unknown, Reports};
 ghost use Rattle.tree.specs.Meaning.{hash_of, code_of};
@@ -11,12 +11,10 @@ ghost use Rattle.verifier.specs.declared.refusal.Refusal.{Refusal};
 
 use crate::records::split_record;
 use crate::{KeySummary, Report};
-use aes128::Aes128Hash;
-use codes::{Code, DigitWidth, FourBits, LamportDiffie, TwoBits, Winternitz2, Winternitz4};
-use hashes::{ChainHash, Practice, TreeHash};
-use sha256::Sha256Hash;
+use codes::Code;
+use hashes::TreeHash;
+use schemes::{Scheme, Task};
 use std::alloc::{AllocError, Global};
-use strings::string_at;
 use verifier::{OpenedKey, RecordKind, Refusal, body_of, open, verify};
 
 // The outcome of the first order in `bytes`, and the bytes of the others.
@@ -28,12 +26,11 @@ fn check_order<'a, H: TreeHash, C: Code>(
     ensures first { (answers : List (Result ℕ Refusal)) → Outcomes (verify_rule (hash_of H.ChainHash H.TreeHash.own) (code_of C.Code) (key_of key.now)) result.1.now answers → Outcomes (verify_rule (hash_of H.ChainHash H.TreeHash.own) (code_of C.Code) (key_of key.now)) bytes.now (result.0 ∷ answers) }
     ensures fewer { length result.1.now < length bytes.now }
 {
-    if bytes.len() < 16 {
-        return (Err(Refusal::Length), &bytes[bytes.len()..bytes.len()]);
-    }
-    let (record, others) = split_record(&bytes[16..bytes.len()]);
-    let outcome = verify::<H, C>(key, &string_at(bytes, 0), record);
-    (outcome, others)
+    let Some((stamp, rest)) = bytes.split_first_chunk::<16>() else {
+        return (Err(Refusal::Length), &[]);
+    };
+    let (record, others) = split_record(rest);
+    (verify::<H, C>(key, stamp, record), others)
 }
 
 // The outcome of each order in `bytes`.
@@ -66,29 +63,35 @@ fn refused_key(heap: Global, refusal: Refusal) -> Report
     }
 }
 
-// The report by the verifier with hash `H` and code `C`.
-fn check_with<H: TreeHash, C: Code>(
+// Checks a key record and orders by the verifier with any hash and code.
+#[derive(Drop)]
+struct Checking<'a> {
     heap: Global,
-    key: &[u8],
-    orders: &[u8],
-) -> Result<Report, AllocError>
-    ensures report { IfOk result (λ report. Checked (hash_of H.ChainHash H.TreeHash.own) (code_of C.Code) (open_rule H.ChainHash.NUMBER C.Code.NUMBER C.Code.LEVELS key.now) orders.now report) }
-    ensures lacking { OnErr result (0 < length orders.now) }
-{
-    match open::<H, C>(key) {
-        Ok(opened) => {
-            let outcomes = check_orders::<H, C>(heap, &opened, orders)?;
-            let summary = KeySummary {
-                hash: H::NUMBER,
-                code: C::NUMBER,
-                height: opened.height(),
-            };
-            Ok(Report {
-                key: Ok(summary),
-                orders: outcomes,
-            })
+    key: &'a [u8],
+    orders: &'a [u8],
+}
+
+impl Task for Checking<'_> {
+    type Output = Result<Report, AllocError>;
+
+    ghost gives = { λ before h c result after. IfOk result (λ report. Checked h c (open_rule h.number c.number c.levels before.key.now) before.orders.now report) × OnErr result (0 < length before.orders.now) };
+
+    fn run<H: TreeHash, C: Code>(&mut self) -> Result<Report, AllocError> {
+        match open::<H, C>(self.key) {
+            Ok(opened) => {
+                let outcomes = check_orders::<H, C>(self.heap, &opened, self.orders)?;
+                let summary = KeySummary {
+                    hash: H::NUMBER,
+                    code: C::NUMBER,
+                    height: opened.height(),
+                };
+                Ok(Report {
+                    key: Ok(summary),
+                    orders: outcomes,
+                })
+            }
+            Err(refusal) => Ok(refused_key(self.heap, refusal)),
         }
-        Err(refusal) => Ok(refused_key(heap, refusal)),
     }
 }
 
@@ -106,32 +109,17 @@ fn unknown(heap: Global, key: &[u8]) -> Report
 fn byte_at(bytes: &[u8], i: usize) -> u8
     ensures { result ≡ slice_index bytes.now i }
 {
-    if i < bytes.len() { bytes[i] } else { 0 }
-}
-
-// The report by hash `H` and the code that the key record names.
-fn check_by_code<H: TreeHash>(heap: Global, key: &[u8], orders: &[u8]) -> Result<Report, AllocError>
-    ensures report { IfOk result (λ report. CheckedBy (Some (hash_of H.ChainHash H.TreeHash.own)) (code_numbered (code_number_of key.now)) key.now orders.now report) }
-    ensures lacking { OnErr result (0 < length orders.now) }
-{
-    match byte_at(key, 7) {
-        LamportDiffie::NUMBER => check_with::<H, LamportDiffie>(heap, key, orders),
-        TwoBits::NUMBER => check_with::<H, Winternitz2>(heap, key, orders),
-        FourBits::NUMBER => check_with::<H, Winternitz4>(heap, key, orders),
-        _ => Ok(unknown(heap, key)),
-    }
+    bytes.get(i).copied().unwrap_or(0)
 }
 
 // The report by the hash and the code that the key record names.
-fn check_by_hash(heap: Global, key: &[u8], orders: &[u8]) -> Result<Report, AllocError>
+fn check_named(heap: Global, key: &[u8], orders: &[u8]) -> Result<Report, AllocError>
     ensures report { IfOk result (λ report. CheckedBy (hash_numbered (hash_number_of key.now)) (code_numbered (code_number_of key.now)) key.now orders.now report) }
     ensures lacking { OnErr result (0 < length orders.now) }
 {
-    match byte_at(key, 6) {
-        Sha256Hash::NUMBER => check_by_code::<Sha256Hash>(heap, key, orders),
-        Aes128Hash::NUMBER => check_by_code::<Aes128Hash>(heap, key, orders),
-        Practice::NUMBER => check_by_code::<Practice>(heap, key, orders),
-        _ => Ok(unknown(heap, key)),
+    match Scheme::numbered(byte_at(key, 6), byte_at(key, 7)) {
+        Ok(scheme) => scheme.run(&mut Checking { heap, key, orders }),
+        Err(_) => Ok(unknown(heap, key)),
     }
 }
 
@@ -141,5 +129,5 @@ pub fn check(heap: Global, input: &[u8]) -> Result<Report, AllocError>
     ensures lacking { OnErr result (0 < length (after_record input.now)) }
 {
     let (key, orders) = split_record(input);
-    check_by_hash(heap, key, orders)
+    check_named(heap, key, orders)
 }

@@ -32,9 +32,7 @@ impl fmt::Display for Report {
                 writeln!(f, "key refused {number}")?;
             }
         }
-        let mut i = 0usize;
-        for outcome in self.orders.iter() {
-            i = i.saturating_add(1);
+        for (i, outcome) in (1u64..).zip(self.orders.iter()) {
             match outcome {
                 Ok(leaf) => writeln!(f, "order {i} leaf {leaf} open")?,
                 Err(refusal) => {

@@ -3,7 +3,7 @@ ghost use Rattle.std.specs.Prelude.{◌≡◌};
 ghost use Rattle.scripts.specs.Begins.{start_of, start_rule};
 ghost use Rattle.verifier.specs.Rules.{seen};
 
-use crate::{CodeName, HashName};
+use schemes::Scheme;
 use signer::Plan;
 use verifier::Refusal;
 
@@ -22,8 +22,7 @@ pub struct Begin {
 #[derive(Clone, Copy)]
 pub struct Start {
     pub plan: Plan,
-    pub hash: HashName,
-    pub code: CodeName,
+    pub scheme: Scheme,
 }
 
 impl Begin {
@@ -32,12 +31,7 @@ impl Begin {
         ensures { seen start_of result ≡ start_rule self.now.hash self.now.code self.now.height }
     {
         let plan = Plan::new(self.height)?;
-        let Some(hash) = HashName::numbered(self.hash) else {
-            return Err(Refusal::Parameters);
-        };
-        let Some(code) = CodeName::numbered(self.code) else {
-            return Err(Refusal::Parameters);
-        };
-        Ok(Start { plan, hash, code })
+        let scheme = Scheme::numbered(self.hash, self.code)?;
+        Ok(Start { plan, scheme })
     }
 }

@@ -7,7 +7,6 @@ mod call;
 mod digits;
 mod hex;
 mod line;
-mod names;
 mod session;
 mod words;
 
@@ -15,5 +14,4 @@ pub use answer::{Answer, Node};
 pub use begin::{Begin, Start};
 pub use call::Call;
 pub use line::{LONGEST, Line};
-pub use names::{CodeName, HashName};
 pub use session::Session;

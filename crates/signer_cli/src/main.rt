@@ -1,11 +1,11 @@
 // signer_cli: reads calls of a signer from standard input, a line for each, and prints a line of answer for each.
 #![tactic(auto)]
 
-use aes128::Aes128Hash;
-use codes::{Code, LamportDiffie, Winternitz2, Winternitz4};
-use hashes::{Practice, TreeHash};
-use scripts::{Answer, Begin, Call, CodeName, HashName, LONGEST, Line, Session, Start};
-use sha256::Sha256Hash;
+use codes::Code;
+use hashes::TreeHash;
+use schemes::Task;
+use scripts::{Answer, Begin, Call, LONGEST, Line, Session, Start};
+use signer::Plan;
 use std::io;
 use std::io::{BufReader, Read, Stdin};
 
@@ -80,55 +80,36 @@ fn listen(rt: &HostRuntime, input: &mut Input) -> anyhow::Result<Next> {
 }
 
 // Serves a key up to the next begin, or to the end.
-fn serve<H: TreeHash, C: Code>(
-    rt: &HostRuntime,
-    input: &mut Input,
-    begin: &Begin,
-    start: Start,
-) -> anyhow::Result<Next> {
-    let mut session = Session::<H, C>::begin(start.plan, begin);
-    let begun = Answer::Begun {
-        hash: begin.hash,
-        code: begin.code,
-        height: begin.height,
-    };
-    println!(rt; "{begun}")?;
-    for _ in 0..u64::MAX {
-        match listen(rt, input)? {
-            Next::Call(call) => {
-                let (after, answer) = session.answer(rt.alloc(), &call)?;
-                session = after;
-                println!(rt; "{answer}")?;
+#[derive(Drop)]
+struct Serve<'a, 'i> {
+    rt: &'a HostRuntime,
+    input: &'i mut Input,
+    begin: &'a Begin,
+    plan: Plan,
+}
+
+impl Task for Serve<'_, '_> {
+    type Output = anyhow::Result<Next>;
+
+    fn run<H: TreeHash, C: Code>(&mut self) -> anyhow::Result<Next> {
+        let mut session = Session::<H, C>::begin(self.plan, self.begin);
+        let begun = Answer::Begun {
+            hash: self.begin.hash,
+            code: self.begin.code,
+            height: self.begin.height,
+        };
+        println!(self.rt; "{begun}")?;
+        for _ in 0..u64::MAX {
+            match listen(self.rt, self.input)? {
+                Next::Call(call) => {
+                    let (after, answer) = session.answer(self.rt.alloc(), &call)?;
+                    session = after;
+                    println!(self.rt; "{answer}")?;
+                }
+                next => return Ok(next),
             }
-            next => return Ok(next),
         }
-    }
-    Ok(Next::End)
-}
-
-fn serve_with<H: TreeHash>(
-    rt: &HostRuntime,
-    input: &mut Input,
-    begin: &Begin,
-    start: Start,
-) -> anyhow::Result<Next> {
-    match start.code {
-        CodeName::LamportDiffie => serve::<H, LamportDiffie>(rt, input, begin, start),
-        CodeName::Winternitz2 => serve::<H, Winternitz2>(rt, input, begin, start),
-        CodeName::Winternitz4 => serve::<H, Winternitz4>(rt, input, begin, start),
-    }
-}
-
-fn serve_begin(
-    rt: &HostRuntime,
-    input: &mut Input,
-    begin: &Begin,
-    start: Start,
-) -> anyhow::Result<Next> {
-    match start.hash {
-        HashName::Sha256 => serve_with::<Sha256Hash>(rt, input, begin, start),
-        HashName::Aes128 => serve_with::<Aes128Hash>(rt, input, begin, start),
-        HashName::Practice => serve_with::<Practice>(rt, input, begin, start),
+        Ok(Next::End)
     }
 }
 
@@ -144,7 +125,12 @@ fn main(rt: HostRuntime) -> anyhow::Result<()> {
     let mut next = listen(&rt, &mut input)?;
     for _ in 0..u64::MAX {
         next = match next {
-            Next::Begin(begin, start) => serve_begin(&rt, &mut input, &begin, start)?,
+            Next::Begin(begin, start) => start.scheme.run(&mut Serve {
+                rt: &rt,
+                input: &mut input,
+                begin: &begin,
+                plan: start.plan,
+            })?,
             Next::Call(_) => {
                 idle(&rt)?;
                 listen(&rt, &mut input)?

@@ -1,9 +1,8 @@
-use Rattle.std.proofs.Common.{ap, ◌∙◌, arith}
+use Rattle.std.proofs.Common.{ap, ◌∙◌}
 use Rattle.histories.specs.Rules.{grow_leaves}
 use Rattle.histories.specs.States.{Making}
 use Rattle.signer.specs.Views.{making_of}
 use Rattle.tree.specs.Meaning.{hash_of, code_of}
-use Rattle.bench_calls.specs.Lives.{grows}
 use Rattle.bench_calls.proofs.Grows.{grows_none, grows-more}
 use Rattle.bench_calls.proofs.lives.grow_on.Goals as goal
 
@@ -14,8 +13,3 @@ pub loop-preserved : goal.loop-preserved
 loop-preserved g c =
     let once : Making → Making = grow_leaves (hash_of g.H.ChainHash g.H.TreeHash) (code_of g.C.Code) in
     c.grow.ensures.state ∙ ap once c.loop.invariant ∙ grows-more _ _ c.loop.counter (making_of c.args.maker.now)
-
-pub returns : goal.returns
-returns g c =
-    c.loop.invariant
-    ∙ ap (λ n. grows (hash_of g.H.ChainHash g.H.TreeHash) (code_of g.C.Code) n (making_of c.args.maker.now)) (omega arith)

@@ -1,0 +1,3 @@
+pub mod Known
+pub mod Names
+pub mod Tasks

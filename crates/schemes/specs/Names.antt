@@ -1,0 +1,35 @@
+-- What the names of hashes and codes mean, and their numbers.
+-- Assumes nothing.
+use Rattle.std.specs.Prelude.{ℕ, cond, Ok, Err, Result, ◌==◌}
+use Rattle.tree.specs.Meaning.{Hash, Code}
+use Rattle.verifier.specs.Rules.{after}
+use Rattle.verifier.specs.declared.refusal.Refusal.{Refusal}
+use Rattle.verifier.specs.declared.refusal.Refusal.TheVariants.{Parameters}
+use Rattle.schemes.specs.Known.{sha, aes, practice, lamport_diffie_code, winternitz2_code, winternitz4_code}
+use Rattle.schemes.specs.declared.names.HashName.{HashName}
+use Rattle.schemes.specs.declared.names.HashName.TheVariants.{Sha256, Aes128, Practice}
+use Rattle.schemes.specs.declared.names.CodeName.{CodeName}
+use Rattle.schemes.specs.declared.names.CodeName.TheVariants.{LamportDiffie, Winternitz2, Winternitz4}
+use Rattle.schemes.specs.declared.scheme.Scheme.{Scheme}
+
+abbrev pub hash_named : HashName → Hash
+hash_named Sha256 = sha
+hash_named Aes128 = aes
+hash_named Practice = practice
+
+abbrev pub code_named : CodeName → Code
+code_named LamportDiffie = lamport_diffie_code
+code_named Winternitz2 = winternitz2_code
+code_named Winternitz4 = winternitz4_code
+
+-- the name of the hash with this number
+abbrev pub hash_name : ℕ → Result HashName Refusal
+hash_name n = cond (n == 1) (Ok Sha256) (cond (n == 2) (Ok Aes128) (cond (n == 3) (Ok Practice) (Err Parameters)))
+
+-- the name of the code with this number
+abbrev pub code_name : ℕ → Result CodeName Refusal
+code_name n = cond (n == 1) (Ok LamportDiffie) (cond (n == 2) (Ok Winternitz2) (cond (n == 3) (Ok Winternitz4) (Err Parameters)))
+
+-- the hash and the code with these numbers
+abbrev pub scheme_numbered : ℕ → ℕ → Result Scheme Refusal
+scheme_numbered hash code = after (hash_name hash) (λ h. after (code_name code) (λ c. Ok (record { hash = h; code = c })))

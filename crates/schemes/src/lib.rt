@@ -1,0 +1,8 @@
+// The hashes and codes that records name by number, and work that is done with any of them.
+#![tactic(auto)]
+
+mod names;
+mod scheme;
+
+pub use names::{CodeName, HashName};
+pub use scheme::{Scheme, Task};

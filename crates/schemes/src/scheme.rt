@@ -1,0 +1,63 @@
+// A hash and a code, and work that is done with any of them.
+ghost use Rattle.std.specs.Prelude.{◌≡◌, ⊤};
+ghost use Rattle.schemes.specs.Names.{hash_named, code_named, scheme_numbered};
+ghost use Rattle.tree.specs.Meaning.{Hash, Code, hash_of, code_of};
+
+use crate::{CodeName, HashName};
+use aes128::Aes128Hash;
+use codes::{Code, LamportDiffie, Winternitz2, Winternitz4};
+use hashes::{Practice, TreeHash};
+use sha256::Sha256Hash;
+use verifier::Refusal;
+
+// Work that is written for any hash and code.
+pub trait Task {
+    type Output;
+
+    // Relates the task before the work, the hash and the code, the answer, and the task after the work. What the work writes
+    // through a reference of the task is said by `Wrote`.
+    ghost gives: { Self → Hash → Code → Self.Output → Self → Type 0 } = { λ _ _ _ _ _. ⊤ };
+
+    fn run<H: TreeHash, C: Code>(&mut self) -> Self::Output
+        ensures { gives self.old (hash_of H.ChainHash H.TreeHash.own) (code_of C.Code) result self.new };
+}
+
+// Does the work with hash `H` and the code of this name.
+fn run_code<H: TreeHash, T: Task>(code: CodeName, task: &mut T) -> T::Output
+    ensures { T.gives task.old (hash_of H.ChainHash H.TreeHash.own) (code_named code) result task.new }
+{
+    match code {
+        CodeName::LamportDiffie => task.run::<H, LamportDiffie>(),
+        CodeName::Winternitz2 => task.run::<H, Winternitz2>(),
+        CodeName::Winternitz4 => task.run::<H, Winternitz4>(),
+    }
+}
+
+// A hash and a code, by their names.
+#[derive(Clone, Copy, PartialEq, Eq, Debug)]
+pub struct Scheme {
+    pub hash: HashName,
+    pub code: CodeName,
+}
+
+impl Scheme {
+    // The hash and the code with these numbers.
+    pub fn numbered(hash: u8, code: u8) -> Result<Scheme, Refusal>
+        ensures { result ≡ scheme_numbered hash code }
+    {
+        let hash = HashName::try_from(hash)?;
+        let code = CodeName::try_from(code)?;
+        Ok(Scheme { hash, code })
+    }
+
+    // Does the work with the hash and the code.
+    pub fn run<T: Task>(self, task: &mut T) -> T::Output
+        ensures { T.gives task.old (hash_named self.hash) (code_named self.code) result task.new }
+    {
+        match self.hash {
+            HashName::Sha256 => run_code::<Sha256Hash, T>(self.code, task),
+            HashName::Aes128 => run_code::<Aes128Hash, T>(self.code, task),
+            HashName::Practice => run_code::<Practice, T>(self.code, task),
+        }
+    }
+}
