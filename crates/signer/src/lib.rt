@@ -1,6 +1,7 @@
 // The signer: a key is planned, begun, grown, put into service, signs, and is retired.
 #![tactic(auto)]
 
+mod holder;
 mod ledger;
 mod maker;
 mod plan;
@@ -8,6 +9,7 @@ mod records;
 mod scratch;
 mod signer;
 
+pub use holder::Holder;
 pub use ledger::Ledger;
 pub use maker::Maker;
 pub use plan::Plan;

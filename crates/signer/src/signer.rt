@@ -11,7 +11,7 @@ use hashes::TreeHash;
 use std::marker::PhantomData;
 
 mod calls;
-mod tracing;
+mod holding;
 
 // Only `finish` makes one.
 #[derive(Drop)]

@@ -1,13 +1,12 @@
 // The calls of a key in service.
-ghost use Rattle.std.specs.Prelude.{◌≡◌, ◌^◌, ◌<◌, replicate, Ok};
-ghost use Rattle.histories.specs.Histories.{State, IsSigner, serving, retired, key, sign, skip, retire, Continues};
-ghost use Rattle.histories.specs.Rules.{Accepted, Accepts, key_record, release_record, key_answer, key_output, sign_answer, sign_state, sign_output, skip_answer, skip_state};
+ghost use Rattle.std.specs.Prelude.{◌≡◌, ◌^◌, ◌<◌, replicate};
+ghost use Rattle.histories.specs.Histories.{serving, retired, sign, skip, retire, Continues};
+ghost use Rattle.histories.specs.Rules.{Accepted, Accepts, release_record, sign_answer, sign_state, sign_output, skip_answer, skip_state};
 ghost use Rattle.signer.specs.Views.{signing_of};
 ghost use Rattle.tree.specs.Meaning.{hash_of, code_of};
-ghost use Rattle.verifier.specs.Rules.{open_rule};
 
 use super::{Retired, Signer};
-use crate::records::{write_key, write_release};
+use crate::records::write_release;
 use crate::scratch::Scratch;
 use codes::Code;
 use growth::Tree;
@@ -15,28 +14,6 @@ use hashes::TreeHash;
 use verifier::Refusal;
 
 impl<H: TreeHash, C: Code> Signer<H, C> {
-    // Writes the key record at the start of the output, and answers its length. Refuses an output that is shorter; it stays.
-    pub fn key(&self, out: &mut [u8]) -> Result<usize, Refusal>
-        ensures answer { result ≡ key_answer (code_of C.Code) (signing_of self.now) out.old }
-        ensures output { out.new ≡ key_output (hash_of H.ChainHash H.TreeHash.own) (code_of C.Code) (signing_of self.now) out.old }
-        ensures opens { open_rule H.ChainHash.NUMBER C.Code.NUMBER C.Code.LEVELS (key_record (hash_of H.ChainHash H.TreeHash.own) (code_of C.Code) (signing_of self.now)) ≡ Ok (record { bytes = key_record (hash_of H.ChainHash H.TreeHash.own) (code_of C.Code) (signing_of self.now); height = self.now.origin.height }) }
-        ensures lived { (x : State) → IsSigner x (signing_of self.now) → Continues (hash_of H.ChainHash H.TreeHash.own) (code_of C.Code) x (key out.old result out.new) x }
-    {
-        let size = 42 + 32 * (self.origin.height as usize + C::LEVELS as usize);
-        if out.len() < size {
-            return Err(Refusal::Output);
-        }
-        let names = [H::NUMBER, C::NUMBER, self.origin.height, 0];
-        write_key(
-            out,
-            &names,
-            &self.origin.hash_key,
-            &self.origin.masks[0..size - 42],
-            &self.root,
-        );
-        Ok(size)
-    }
-
     // Spends the next leaf on a stamp: writes the release record at the start of the output, and answers its length and
     // its leaf number. Refuses where all leaves are spent, and an output that is shorter; then nothing changes.
     pub fn sign(
@@ -93,17 +70,5 @@ impl<H: TreeHash, C: Code> Signer<H, C> {
         ensures lived { Continues (hash_of H.ChainHash H.TreeHash.own) (code_of C.Code) (serving (signing_of self)) retire (retired (signing_of result.signer)) }
     {
         Retired { signer: self }
-    }
-}
-
-impl<H: TreeHash, C: Code> Retired<H, C> {
-    // As `key` of the signer that was retired.
-    pub fn key(&self, out: &mut [u8]) -> Result<usize, Refusal>
-        ensures answer { result ≡ key_answer (code_of C.Code) (signing_of self.now.signer) out.old }
-        ensures output { out.new ≡ key_output (hash_of H.ChainHash H.TreeHash.own) (code_of C.Code) (signing_of self.now.signer) out.old }
-        ensures opens { open_rule H.ChainHash.NUMBER C.Code.NUMBER C.Code.LEVELS (key_record (hash_of H.ChainHash H.TreeHash.own) (code_of C.Code) (signing_of self.now.signer)) ≡ Ok (record { bytes = key_record (hash_of H.ChainHash H.TreeHash.own) (code_of C.Code) (signing_of self.now.signer); height = self.now.signer.origin.height }) }
-        ensures lived { Continues (hash_of H.ChainHash H.TreeHash.own) (code_of C.Code) (retired (signing_of self.now.signer)) (key out.old result out.new) (retired (signing_of self.now.signer)) }
-    {
-        self.signer.key(out)
     }
 }
