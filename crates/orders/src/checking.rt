@@ -99,7 +99,7 @@ impl Task for Checking<'_> {
 fn unknown(heap: Global, key: &[u8]) -> Report
     ensures { Unknown (header_rule 1 key.now) result }
 {
-    match body_of(key, RecordKind::Key) {
+    match body_of(key, RecordKind::Key.number()) {
         Ok(_) => refused_key(heap, Refusal::Parameters),
         Err(refusal) => refused_key(heap, refusal),
     }

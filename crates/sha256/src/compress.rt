@@ -1,5 +1,5 @@
 // The compression function: a hash value and a block to the next hash value.
-ghost use Rattle.std.specs.Prelude.{◌≡◌};
+ghost use Rattle.std.specs.Prelude.{◌≡◌, ◌+◌, ◌≤◌};
 ghost use Rattle.sha256.specs.Compress as spec;
 
 use crate::constants::ROUND_WORDS;
@@ -30,13 +30,25 @@ fn round(s: State, k: u32, w: u32) -> State
     }
 }
 
+// Four rounds, from round number `t` on: a loop so short is unrolled, and the eight words then move less.
+fn four_rounds(start: State, schedule: &[u32; 64], t: usize) -> State
+    requires { t + 4 ≤ 64 }
+    ensures { result ≡ spec.rounds 4 t start schedule.now }
+{
+    let mut s = start;
+    for j in 0..4usize {
+        s = round(s, ROUND_WORDS[t + j], schedule[t + j]);
+    }
+    s
+}
+
 // All rounds.
 fn rounds(start: State, schedule: &[u32; 64]) -> State
     ensures { result ≡ spec.rounds 64 0 start schedule.now }
 {
     let mut s = start;
-    for (t, w) in schedule.iter().enumerate() {
-        s = round(s, ROUND_WORDS[t], *w);
+    for i in 0..16usize {
+        s = four_rounds(s, schedule, 4 * i);
     }
     s
 }
