@@ -1,3 +1,4 @@
 pub mod Texts
 pub mod Nodes
 pub mod Outputs
+pub mod CallNames

@@ -24,8 +24,7 @@ fn held_nodes<H: TreeHash, C: Code>(
     let mut nodes = Vec::new(heap);
     for level in 0..9u8 {
         if let Some(held) = maker.held(level) {
-            let position = held.0;
-            let node = held.1;
+            let (position, node) = held;
             nodes.push(Node {
                 level,
                 position,
@@ -41,10 +40,9 @@ fn grow<H: TreeHash, C: Code>(maker: &mut Maker<H, C>) -> Answer
     ensures state { making_of maker.new ≡ grow_leaves (hash_of H.ChainHash H.TreeHash.own) (code_of C.Code) (making_of maker.old) }
 {
     let mut work = [0; 4096];
-    match maker.grow(&mut work) {
-        Ok(grown) => Answer::Grown(grown),
-        Err(refusal) => Answer::Refused(refusal),
-    }
+    maker
+        .grow(&mut work)
+        .map_or_else(Answer::Refused, Answer::Grown)
 }
 
 // Answers a call of a key that is being grown.
