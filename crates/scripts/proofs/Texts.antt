@@ -82,18 +82,8 @@ hex-more xs out rest i b lt two is e =
     ∙ (ap (following (take i out)) (hex-pair rest two ∙ ap (λ o. onto o d) is)
     ∙ (onto-following (take i out) b d ∙ ap (λ t. following t d) (sym (take_more_set out i b lt))))
 
-pub hex-bad : (xs out rest : List ℕ) (n : ℕ) → 2 ≤ length rest → byte_of (digit_value (get_or rest 0 0)) (digit_value (get_or rest 1 0)) ≡ None → hex_bytes xs ≡ following out (hex_bytes rest) → None ≡ hex_of n xs
-hex-bad xs out rest n two is e =
-    let d = hex_bytes (drop 2 rest) in
-    sym (ap (of_length n) (e ∙ ap (following out) (hex-pair rest two ∙ ap (λ o. onto o d) is)))
-
 other-length : (n : ℕ) (bs : List ℕ) → (length bs ≡ n → ⊥) → of_length n (Some bs) ≡ None
 other-length n bs ne = cond-false (eqb (length bs) n) (Some bs) None (ne_eqb (length bs) n ne)
-
-pub hex-short : (xs out rest : List ℕ) (n : ℕ) → length out < n → length rest < 2 → hex_bytes xs ≡ following out (hex_bytes rest) → None ≡ hex_of n xs
-hex-short xs out [] n lt short e = sym (ap (of_length n) (e ∙ ap Some (append-nil out)) ∙ other-length n out (λ h. omega arith))
-hex-short xs out (a ∷ []) n lt short e = sym (ap (of_length n) e)
-hex-short xs out (a ∷ (b ∷ rest)) n lt short e = absurd (omega arith)
 
 more-follows : (out : List ℕ) (o : Option ℕ) (r : Option (List ℕ)) → None ≡ of_length (length out) (following out (onto o r))
 more-follows out (Some b) (Some bs) = sym (other-length (length out) (out ++ b ∷ bs) (λ h. omega (arith, length-append out (b ∷ bs))))

@@ -6,7 +6,7 @@ ghost use Rattle.scripts.specs.Replies.{told, key_reply, trace_reply};
 ghost use Rattle.signer.specs.Views.{signing_of};
 ghost use Rattle.tree.specs.Meaning.{hash_of, code_of};
 
-use super::outputs::{key_answer, output_of, trace_answer};
+use super::outputs::output_of;
 use crate::Answer;
 use codes::Code;
 use hashes::TreeHash;
@@ -77,8 +77,13 @@ pub(crate) fn key<H: TreeHash, C: Code, K: Holder<H, C>>(
     ensures { IfOk result (λ a. told a ≡ key_reply (hash_of H.ChainHash H.TreeHash.own) (code_of C.Code) (K.signing holder.now) room) }
 {
     let mut out = output_of(heap, room)?;
-    let size = holder.key(out.as_mut_slice());
-    Ok(key_answer(out, size))
+    match holder.key(out.as_mut_slice()) {
+        Ok(size) => {
+            out.truncate(size);
+            Ok(Answer::Key(out))
+        }
+        Err(refusal) => Ok(Answer::Refused(refusal)),
+    }
 }
 
 pub(crate) fn trace<H: TreeHash, C: Code, K: Holder<H, C>>(
@@ -90,6 +95,10 @@ pub(crate) fn trace<H: TreeHash, C: Code, K: Holder<H, C>>(
 {
     let mut work = [0; 4096];
     let mut report = [0; 64];
-    let numbers = holder.trace(stamp, bytes, &mut report, &mut work);
-    trace_answer(numbers, report)
+    holder
+        .trace(stamp, bytes, &mut report, &mut work)
+        .map_or_else(
+            Answer::Refused,
+            |numbers| Answer::Verdict { numbers, report },
+        )
 }

@@ -54,20 +54,15 @@ pub(crate) fn while_growing<H: TreeHash, C: Code>(
     ensures answer { IfOk result (λ x. told x.1 ≡ reply (hash_of H.ChainHash H.TreeHash.own) (code_of C.Code) (growing (making_of maker)) (said call.now)) }
     ensures state { IfOk result (λ x. state_of x.0 ≡ leaves (hash_of H.ChainHash H.TreeHash.own) (code_of C.Code) (growing (making_of maker)) (said call.now)) }
 {
-    match call {
-        Call::Grow => {
-            let answer = grow(&mut maker);
-            Ok((Session::Growing(maker), answer))
-        }
-        Call::Nodes => {
-            let nodes = held_nodes(heap, &maker)?;
-            Ok((Session::Growing(maker), Answer::Nodes(nodes)))
-        }
+    let answer = match call {
+        Call::Grow => grow(&mut maker),
+        Call::Nodes => Answer::Nodes(held_nodes(heap, &maker)?),
         Call::Finish => {
             let mut work = [0; 4096];
             let signer = maker.finish(&mut work);
-            Ok((Session::Serving(signer), Answer::Finished))
+            return Ok((Session::Serving(signer), Answer::Finished));
         }
-        _ => Ok((Session::Growing(maker), Answer::NotNow)),
-    }
+        _ => Answer::NotNow,
+    };
+    Ok((Session::Growing(maker), answer))
 }

@@ -23,15 +23,10 @@ pub(crate) fn out_of_service<H: TreeHash, C: Code>(
     ensures answer { IfOk result (λ x. told x.1 ≡ reply (hash_of H.ChainHash H.TreeHash.own) (code_of C.Code) (retired (signing_of signer.signer)) (said call.now)) }
     ensures state { IfOk result (λ x. state_of x.0 ≡ leaves (hash_of H.ChainHash H.TreeHash.own) (code_of C.Code) (retired (signing_of signer.signer)) (said call.now)) }
 {
-    match call {
-        Call::Key { room } => {
-            let answer = key(heap, &signer, *room)?;
-            Ok((Session::Retired(signer), answer))
-        }
-        Call::Trace { stamp, record } => {
-            let answer = trace(&signer, stamp, record.as_slice());
-            Ok((Session::Retired(signer), answer))
-        }
-        _ => Ok((Session::Retired(signer), Answer::NotNow)),
-    }
+    let answer = match call {
+        Call::Key { room } => key(heap, &signer, *room)?,
+        Call::Trace { stamp, record } => trace(&signer, stamp, record.as_slice()),
+        _ => Answer::NotNow,
+    };
+    Ok((Session::Retired(signer), answer))
 }

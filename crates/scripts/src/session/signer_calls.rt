@@ -52,24 +52,13 @@ pub(crate) fn in_service<H: TreeHash, C: Code>(
     ensures answer { IfOk result (λ x. told x.1 ≡ reply (hash_of H.ChainHash H.TreeHash.own) (code_of C.Code) (serving (signing_of signer)) (said call.now)) }
     ensures state { IfOk result (λ x. state_of x.0 ≡ leaves (hash_of H.ChainHash H.TreeHash.own) (code_of C.Code) (serving (signing_of signer)) (said call.now)) }
 {
-    match call {
-        Call::Key { room } => {
-            let answer = key(heap, &signer, *room)?;
-            Ok((Session::Serving(signer), answer))
-        }
-        Call::Sign { stamp, room } => {
-            let answer = sign(heap, &mut signer, stamp, *room)?;
-            Ok((Session::Serving(signer), answer))
-        }
-        Call::Skip { leaf } => {
-            let answer = skip(&mut signer, *leaf);
-            Ok((Session::Serving(signer), answer))
-        }
-        Call::Retire => Ok((Session::Retired(signer.retire()), Answer::Retired)),
-        Call::Trace { stamp, record } => {
-            let answer = trace(&signer, stamp, record.as_slice());
-            Ok((Session::Serving(signer), answer))
-        }
-        _ => Ok((Session::Serving(signer), Answer::NotNow)),
-    }
+    let answer = match call {
+        Call::Key { room } => key(heap, &signer, *room)?,
+        Call::Sign { stamp, room } => sign(heap, &mut signer, stamp, *room)?,
+        Call::Skip { leaf } => skip(&mut signer, *leaf),
+        Call::Retire => return Ok((Session::Retired(signer.retire()), Answer::Retired)),
+        Call::Trace { stamp, record } => trace(&signer, stamp, record.as_slice()),
+        _ => Answer::NotNow,
+    };
+    Ok((Session::Serving(signer), answer))
 }

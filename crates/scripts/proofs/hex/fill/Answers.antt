@@ -1,23 +1,11 @@
-use Rattle.std.proofs.Common.{◌≡◌, ◌<◌, ◌≤◌, length, set, take, ◌+◌, sym, ap, ◌∙◌, arith, length-take}
+use Rattle.std.proofs.Common.{◌≡◌, ◌<◌, ◌≤◌, length, set, take, ◌+◌, sym, ap, ◌∙◌, arith}
 use Rattle.std.proofs.lemmas.List.{take_rest, take_all}
 use Rattle.scripts.specs.Hex.{hex_bytes}
-use Rattle.scripts.proofs.Texts.{following, hex-none, hex-short, hex-bad, hex-more, hex-full}
+use Rattle.scripts.proofs.Texts.{following, hex-none, hex-more, hex-full}
 use Rattle.scripts.proofs.hex.fill.Goals as goal
 
 pub loop-place-init : goal.loop-place-init
 loop-place-init c = hex-none c.args.text.now
-
-pub returns-in_default : goal.returns-in_default
-returns-in_default c =
-    let out = c.loop-place.out in
-    let i = c.loop-place.place-index in
-    let short : length (take i out) < length c.args.out.now = omega (arith, length-take i out) in
-    hex-short c.args.text.now (take i out) c.loop-place.text.now (length c.args.out.now) short c.in_default.len_below c.loop-place.invariant
-
-pub returns-in_err-place : goal.returns-in_err-place
-returns-in_err-place c =
-    rw c.from_residual.ensures
-    (hex-bad c.args.text.now (take c.loop-place.place-index c.loop-place.out) c.loop-place.text.now (length c.args.out.now) c.in-len2-up.len_at_least (sym c.byte.ensures ∙ c.in_err-place.was) c.loop-place.invariant)
 
 pub loop-place-preserved : goal.loop-place-preserved
 loop-place-preserved c =
