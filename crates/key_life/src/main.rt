@@ -4,7 +4,7 @@
 use anyhow::anyhow;
 use codes::Winternitz4;
 use hashes::Practice;
-use signer::{Maker, Plan, Retired, Signer};
+use signer::{Holder, Maker, Plan, Signer};
 use telling::{tell_refusal, tell_trace};
 use verifier::{open, verify};
 
@@ -14,8 +14,6 @@ mod telling;
 type Making = Maker<Practice, Winternitz4>;
 
 type Signing = Signer<Practice, Winternitz4>;
-
-type Gone = Retired<Practice, Winternitz4>;
 
 // A release record of this key: 8 + 16 (35 + 2) bytes.
 const RELEASE: usize = 600;
@@ -27,9 +25,9 @@ fn begun(plan: Plan) -> Making {
 
 // A key of four leaves is begun, and half of it grown.
 fn begin(rt: &HostRuntime, plan: Plan, work: &mut [u8; 4096]) -> anyhow::Result<Making> {
-    let height = plan.height();
     println!(rt;
-        "A key of height {height} is begun under the practice hash, with Winternitz digits of four bits."
+        "A key of height {} is begun under the practice hash, with Winternitz digits of four bits.",
+        plan.height()
     )?;
     let mut maker = begun(plan);
     for _ in 0..2u8 {
@@ -42,13 +40,17 @@ fn begin(rt: &HostRuntime, plan: Plan, work: &mut [u8; 4096]) -> anyhow::Result<
 }
 
 // The key record is written; an output that is too short is refused.
-fn publish(rt: &HostRuntime, key: &Signing, out: &mut [u8; 1024]) -> anyhow::Result<usize> {
+fn publish<'a>(
+    rt: &HostRuntime,
+    key: &Signing,
+    out: &'a mut [u8; 1024],
+) -> anyhow::Result<&'a [u8]> {
     if let Err(refusal) = key.key(&mut out[0..100]) {
         tell_refusal(rt, "Writing the key record into 100 bytes", refusal)?;
     }
     let length = key.key(out).unwrap_or(0).min(1024);
     println!(rt; "The key record has {length} bytes. It goes into the boxes; it holds no secret.")?;
-    Ok(length)
+    Ok(&out[..length])
 }
 
 // An order is signed, and the record handed to a verifier that has the key record and nothing else.
@@ -97,32 +99,6 @@ fn skip(rt: &HostRuntime, key: &mut Signing) -> anyhow::Result<()> {
     Ok(())
 }
 
-// A record comes back, and is compared with the ledger.
-fn trace(
-    rt: &HostRuntime,
-    key: &Signing,
-    order: u8,
-    release: &[u8; RELEASE],
-    work: &mut [u8; 4096],
-) -> anyhow::Result<()> {
-    let mut report = [0; 64];
-    let answer = key.trace(&[order; 16], release, &mut report, work);
-    tell_trace(rt, answer, &report)
-}
-
-// The same, at a key out of service.
-fn trace_retired(
-    rt: &HostRuntime,
-    key: &Gone,
-    order: u8,
-    release: &[u8; RELEASE],
-    work: &mut [u8; 4096],
-) -> anyhow::Result<()> {
-    let mut report = [0; 64];
-    let answer = key.trace(&[order; 16], release, &mut report, work);
-    tell_trace(rt, answer, &report)
-}
-
 // A record that somebody makes with the stolen seed, for a leaf and an order of their own.
 fn forge(plan: Plan, leaf: u16, order: u8, work: &mut [u8; 4096]) -> [u8; RELEASE] {
     let mut twin = begun(plan).finish(work);
@@ -143,26 +119,26 @@ fn specimens(
     work: &mut [u8; 4096],
 ) -> anyhow::Result<()> {
     println!(rt; "The record of leaf 0 comes back as it was.")?;
-    trace(rt, key, 1, first, work)?;
+    tell_trace(rt, |report| key.trace(&[1; 16], first, report, work))?;
     println!(rt; "It comes back with a bit of its first string turned.")?;
     let mut turned = *first;
     tampering::step_twin(&mut turned, 0);
     check(rt, record, &[1; 16], &turned)?;
-    trace(rt, key, 1, &turned, work)?;
+    tell_trace(rt, |report| key.trace(&[1; 16], &turned, report, work))?;
     println!(rt; "The record of leaf 1 comes back with its first two strings shifted.")?;
     let mut shifted = *second;
     tampering::pair_twin(&mut shifted, 0);
     check(rt, record, &[255; 16], &shifted)?;
-    trace(rt, key, 255, &shifted, work)?;
+    tell_trace(rt, |report| key.trace(&[255; 16], &shifted, report, work))?;
     println!(rt; "A record of leaf 0 comes back for stamp 7, which was never signed.")?;
     let forged = forge(plan, 0, 7, work);
     check(rt, record, &[7; 16], &forged)?;
-    trace(rt, key, 7, &forged, work)?;
+    tell_trace(rt, |report| key.trace(&[7; 16], &forged, report, work))?;
     println!(rt; "A record of leaf 0 comes back with a string of its way up changed.")?;
     let mut cut = *first;
     tampering::step_twin(&mut cut, 35);
     check(rt, record, &[1; 16], &cut)?;
-    trace(rt, key, 1, &cut, work)
+    tell_trace(rt, |report| key.trace(&[1; 16], &cut, report, work))
 }
 
 fn main(rt: HostRuntime) -> anyhow::Result<()> {
@@ -177,8 +153,7 @@ fn main(rt: HostRuntime) -> anyhow::Result<()> {
     let mut key = maker.finish(&mut work);
     println!(rt; "The leaves that lacked are grown, and the key is in service.")?;
     let mut out = [0; 1024];
-    let length = publish(&rt, &key, &mut out)?;
-    let record = &out[0..length.min(1024)];
+    let record = publish(&rt, &key, &mut out)?;
     let first = release(&rt, &mut key, record, 1, &mut work)?;
     let second = release(&rt, &mut key, record, 255, &mut work)?;
     skip(&rt, &mut key)?;
@@ -188,8 +163,14 @@ fn main(rt: HostRuntime) -> anyhow::Result<()> {
     let retired = key.retire();
     println!(rt; "The key is retired: it signs no more, and still traces.")?;
     println!(rt; "The record of leaf 0 comes back once more.")?;
-    trace_retired(&rt, &retired, 1, &first, &mut work)?;
+    tell_trace(
+        &rt,
+        |report| retired.trace(&[1; 16], &first, report, &mut work),
+    )?;
     println!(rt; "A record of leaf 2, which was skipped, comes back for stamp 0.")?;
     let forged = forge(plan, 2, 0, &mut work);
-    trace_retired(&rt, &retired, 0, &forged, &mut work)
+    tell_trace(
+        &rt,
+        |report| retired.trace(&[0; 16], &forged, report, &mut work),
+    )
 }

@@ -9,8 +9,7 @@ pub struct Hex(pub [u8; 16]);
 
 impl fmt::Display for Hex {
     fn fmt<W: fmt::Write>(&self, f: &mut fmt::Formatter<W>) -> fmt::Result {
-        for i in 0..16usize {
-            let byte = self.0[i];
+        for byte in self.0 {
             write!(f, "{byte:02x}")?;
         }
         Ok(())
@@ -18,19 +17,20 @@ impl fmt::Display for Hex {
 }
 
 pub(crate) fn tell_refusal(rt: &HostRuntime, what: &str, refusal: Refusal) -> anyhow::Result<()> {
-    let number = refusal.number();
-    println!(rt; "{what} is refused with {number}.")?;
+    println!(rt; "{what} is refused with {refusal}.")?;
     Ok(())
 }
 
-// What trace answered, in words.
-pub(crate) fn tell_trace(
+// What a trace answers, in words.
+pub(crate) fn tell_trace<F: FnOnce(&mut [u8; 64]) -> Result<(u8, u16, u16), Refusal>>(
     rt: &HostRuntime,
-    answer: Result<(u8, u16, u16), Refusal>,
-    report: &[u8; 64],
-) -> anyhow::Result<()> {
-    match answer {
-        Ok(verdict) => tell_verdict(rt, verdict, report),
+    trace: F,
+) -> anyhow::Result<()>
+    requires { F.IsAlwaysCallable trace }
+{
+    let mut report = [0; 64];
+    match trace(&mut report) {
+        Ok(verdict) => tell_verdict(rt, verdict, &report),
         Err(refusal) => tell_refusal(rt, "  Tracing", refusal),
     }
 }
@@ -38,10 +38,9 @@ pub(crate) fn tell_trace(
 // A verdict, in words.
 fn tell_verdict(
     rt: &HostRuntime,
-    verdict: (u8, u16, u16),
+    (kind, first, second): (u8, u16, u16),
     report: &[u8; 64],
 ) -> anyhow::Result<()> {
-    let (kind, first, second) = verdict;
     let one = Hex(string_at(report, 0));
     let two = Hex(string_at(report, 1));
     let three = Hex(string_at(report, 2));

@@ -4,7 +4,7 @@
 use anyhow::anyhow;
 use codes::Winternitz4;
 use hashes::Practice;
-use signer::{Maker, Plan, Signer};
+use signer::{Holder, Maker, Plan, Signer};
 use verifier::{open, verify};
 
 type Making = Maker<Practice, Winternitz4>;
@@ -13,32 +13,32 @@ type Signing = Signer<Practice, Winternitz4>;
 
 // A key of four leaves is begun, and half of it grown.
 fn begin(rt: &HostRuntime, plan: Plan, work: &mut [u8; 4096]) -> anyhow::Result<Making> {
-    let height = plan.height();
     println!(rt;
-        "A key of height {height} is begun under the practice hash, with Winternitz digits of four bits."
+        "A key of height {} is begun under the practice hash, with Winternitz digits of four bits.",
+        plan.height()
     )?;
     let mut maker = Making::begin(plan, [5; 16], [9; 16], [1; 512]);
     for _ in 0..2u8 {
         match maker.grow(work) {
             Ok(grown) => println!(rt; "A leaf is grown: {grown} in.")?,
-            Err(refusal) => {
-                let number = refusal.number();
-                println!(rt; "Growing is refused with {number}.")?;
-            }
+            Err(refusal) => println!(rt; "Growing is refused with {refusal}.")?,
         }
     }
     Ok(maker)
 }
 
 // The key record is written; an output that is too short is refused.
-fn publish(rt: &HostRuntime, key: &Signing, out: &mut [u8; 1024]) -> anyhow::Result<usize> {
+fn publish<'a>(
+    rt: &HostRuntime,
+    key: &Signing,
+    out: &'a mut [u8; 1024],
+) -> anyhow::Result<&'a [u8]> {
     if let Err(refusal) = key.key(&mut out[0..100]) {
-        let number = refusal.number();
-        println!(rt; "An output of 100 bytes is refused with {number}.")?;
+        println!(rt; "An output of 100 bytes is refused with {refusal}.")?;
     }
     let length = key.key(out).unwrap_or(0).min(1024);
     println!(rt; "The key record has {length} bytes.")?;
-    Ok(length)
+    Ok(&out[..length])
 }
 
 // An order is signed, and the record handed to a verifier that has the key record and nothing else.
@@ -56,11 +56,10 @@ fn release(
             println!(rt;
                 "Order {order} is signed with leaf {leaf}: a release record of {length} bytes."
             )?;
-            check(rt, record, &stamp, &out[0..length.min(1024)])
+            check(rt, record, &stamp, &out[..length.min(1024)])
         }
         Err(refusal) => {
-            let number = refusal.number();
-            println!(rt; "Order {order} is refused with {number}: no leaf is left.")?;
+            println!(rt; "Order {order} is refused with {refusal}: no leaf is left.")?;
             Ok(())
         }
     }
@@ -72,10 +71,7 @@ fn check(rt: &HostRuntime, record: &[u8], stamp: &[u8; 16], release: &[u8]) -> a
     };
     match verify::<Practice, Winternitz4>(&opened, stamp, release) {
         Ok(leaf) => println!(rt; "  The verifier opens the box: leaf {leaf}.")?,
-        Err(refusal) => {
-            let number = refusal.number();
-            println!(rt; "  The verifier refuses with {number}.")?;
-        }
+        Err(refusal) => println!(rt; "  The verifier refuses with {refusal}.")?,
     }
     Ok(())
 }
@@ -86,8 +82,7 @@ fn skip(rt: &HostRuntime, key: &mut Signing) -> anyhow::Result<()> {
         println!(rt; "Leaf 2 is skipped: the next leaf is {next}.")?;
     }
     if let Err(refusal) = key.skip(2) {
-        let number = refusal.number();
-        println!(rt; "Going back to leaf 2 is refused with {number}.")?;
+        println!(rt; "Going back to leaf 2 is refused with {refusal}.")?;
     }
     Ok(())
 }
@@ -95,8 +90,7 @@ fn skip(rt: &HostRuntime, key: &mut Signing) -> anyhow::Result<()> {
 fn main(rt: HostRuntime) -> anyhow::Result<()> {
     let mut work = [0; 4096];
     if let Err(refusal) = Plan::new(9) {
-        let number = refusal.number();
-        println!(rt; "A plan of height 9 is refused with {number}.")?;
+        println!(rt; "A plan of height 9 is refused with {refusal}.")?;
     }
     let Ok(plan) = Plan::new(2) else {
         return Err(anyhow!("a plan of height 2 is refused"));
@@ -105,13 +99,13 @@ fn main(rt: HostRuntime) -> anyhow::Result<()> {
     let mut key = maker.finish(&mut work);
     println!(rt; "The leaves that lacked are grown, and the key is in service.")?;
     let mut out = [0; 1024];
-    let length = publish(&rt, &key, &mut out)?;
+    let record = publish(&rt, &key, &mut out)?;
     for order in 1..3u8 {
-        release(&rt, &mut key, &out[0..length.min(1024)], order, &mut work)?;
+        release(&rt, &mut key, record, order, &mut work)?;
     }
     skip(&rt, &mut key)?;
     for order in 3..5u8 {
-        release(&rt, &mut key, &out[0..length.min(1024)], order, &mut work)?;
+        release(&rt, &mut key, record, order, &mut work)?;
     }
     let retired = key.retire();
     let again = retired.key(&mut out).unwrap_or(0);

@@ -21,24 +21,13 @@ pub struct Report {
 impl fmt::Display for Report {
     fn fmt<W: fmt::Write>(&self, f: &mut fmt::Formatter<W>) -> fmt::Result {
         match self.key {
-            Ok(key) => {
-                let hash = key.hash;
-                let code = key.code;
-                let height = key.height;
-                writeln!(f, "key {hash} {code} {height}")?;
-            }
-            Err(refusal) => {
-                let number = refusal.number();
-                writeln!(f, "key refused {number}")?;
-            }
+            Ok(KeySummary { hash, code, height }) => writeln!(f, "key {hash} {code} {height}")?,
+            Err(refusal) => writeln!(f, "key refused {refusal}")?,
         }
         for (i, outcome) in (1u64..).zip(self.orders.iter()) {
             match outcome {
                 Ok(leaf) => writeln!(f, "order {i} leaf {leaf} open")?,
-                Err(refusal) => {
-                    let number = refusal.number();
-                    writeln!(f, "order {i} refused {number}")?;
-                }
+                Err(refusal) => writeln!(f, "order {i} refused {refusal}")?,
             }
         }
         Ok(())

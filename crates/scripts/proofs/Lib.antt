@@ -1,3 +1,3 @@
 pub mod Texts
 pub mod Nodes
-pub mod Outputs
+pub mod CallNames

@@ -1,46 +1,57 @@
 -- Reading words, hex digits and numbers place by place.
 -- Assumes nothing.
-use Rattle.std.proofs.Common.{◌≡◌, ℕ, suc, ◌+◌, ◌-◌, ◌*◌, ◌%◌, ◌<◌, ◌≤◌, false, ◌&&◌, eqb, leb, ◌⊎◌, List, [], ◌∷◌, ◌++◌, length, get_or, take, drop, IfSome, Some, None, Option, sym, refl, ap, ◌∙◌, ⊎_elim, append_assoc, append-nil, arith}
-use Rattle.std.proofs.lemmas.List.{drop_more, take_more, drop_all, take_all}
-use Rattle.std.proofs.lemmas.Bool.{cond-true, cond-false, eq-eqb, ne_eqb, le-leb, lt-leb, and_from, and_left, and_right, cases_Bool}
+use Rattle.std.proofs.Common.{◌≡◌, ℕ, suc, ◌+◌, ◌-◌, ◌*◌, ◌/◌, ◌<◌, ◌≤◌, Bool, true, false, not, cond, ◌==◌, nat_lt, ◌&&◌, eqb, leb, List, [], ◌∷◌, ◌++◌, length, get_or, set, take, drop, position, IfSome, Some, None, Option, MatchOption, sym, refl, ap, ◌∙◌, append_assoc, append-nil, length-append, arith}
+use Rattle.std.proofs.lemmas.List.{drop_more, take_more_set, drop_all, take_all}
+use Rattle.std.proofs.lemmas.Bool.{cond-true, cond-false, eq-eqb, ne_eqb, lt-leb, ltb-true, ltb-false}
+use Rattle.std.specs.Bool.{then_some}
+use Rattle.std.specs.List.{position_or_len}
 use Rattle.std.specs.Option.{option_map}
-use Rattle.scripts.specs.Digits.{number_from, at_most, number_rule}
+use Rattle.scripts.specs.Digits.{number_from, at_most}
 use Rattle.scripts.specs.Hex.{digit_value, byte_of, onto, hex_bytes, of_length, hex_of}
-use Rattle.scripts.specs.Words.{word_of, after_word}
+use Rattle.scripts.specs.Words.{word_of, after_word, left_after, string_word}
 
 -- words
 
-pub word_more : (xs : List ℕ) (i : ℕ) → i < length xs → (get_or xs i 0 ≡ 32 → ⊥) → word_of xs ≡ take i xs ++ word_of (drop i xs) → word_of xs ≡ take (i + 1) xs ++ word_of (drop (i + 1) xs)
-word_more xs i lt ne e =
-    let c = get_or xs i 0 in
-    let w = word_of (drop (i + 1) xs) in
-    let p : word_of (drop i xs) ≡ c ∷ w = ap word_of (drop_more xs i 0 lt) ∙ cond-false (eqb c 32) [] (c ∷ w) (ne_eqb c 32 ne) in
-    e ∙ (ap (λ t. take i xs ++ t) p ∙ (sym (append_assoc (take i xs) (c ∷ []) w) ∙ ap (λ t. t ++ w) (sym (take_more xs i 0 lt))))
+-- where the first space is, or the length
+abbrev pub space : List ℕ → ℕ
+space xs = position_or_len (λ c. c == 32) xs
 
-pub word-found : (xs : List ℕ) (i : ℕ) → i < length xs → get_or xs i 0 ≡ 32 → word_of xs ≡ take i xs ++ word_of (drop i xs) → take i xs ≡ word_of xs
-word-found xs i lt h e =
-    let c = get_or xs i 0 in
-    let p : word_of (drop i xs) ≡ [] = ap word_of (drop_more xs i 0 lt) ∙ cond-true (eqb c 32) [] (c ∷ word_of (drop (i + 1) xs)) (eq-eqb c 32 h) in
-    sym (e ∙ (ap (λ t. take i xs ++ t) p ∙ append-nil (take i xs)))
+word-space : (xs : List ℕ) → word_of xs ≡ take (space xs) xs
+word-space [] = refl
+word-space (x ∷ xs) = turned (x == 32) (space xs) (word-space xs)
+  where
+    turned : (b : Bool) (n : ℕ) → word_of xs ≡ take n xs → cond b [] (x ∷ word_of xs) ≡ take (cond (not b) (1 + n) 0) (x ∷ xs)
+    turned true n e = refl
+    turned false n e = let h : suc n ≡ 1 + n = omega arith in ap (λ t. x ∷ t) e ∙ ap (λ k. take k (x ∷ xs)) h
 
-pub word-all : (xs : List ℕ) (i : ℕ) → length xs ≤ i → word_of xs ≡ take i xs ++ word_of (drop i xs) → xs ≡ word_of xs
-word-all xs i le e =
-    sym (e ∙ (ap (λ t. take i xs ++ word_of t) (drop_all i xs le) ∙ (append-nil (take i xs) ∙ take_all i xs le)))
+abbrev past : List ℕ → Option (List ℕ)
+past [] = None
+past (x ∷ xs) = Some xs
 
-pub after_more : (xs : List ℕ) (i : ℕ) → i < length xs → (get_or xs i 0 ≡ 32 → ⊥) → after_word xs ≡ after_word (drop i xs) → after_word xs ≡ after_word (drop (i + 1) xs)
-after_more xs i lt ne e =
-    let c = get_or xs i 0 in
-    let d = drop (i + 1) xs in
-    e ∙ (ap after_word (drop_more xs i 0 lt) ∙ cond-false (eqb c 32) (Some d) (after_word d) (ne_eqb c 32 ne))
+after-space : (xs : List ℕ) → after_word xs ≡ past (drop (space xs) xs)
+after-space [] = refl
+after-space (x ∷ xs) = turned (x == 32) (space xs) (after-space xs)
+  where
+    turned : (b : Bool) (n : ℕ) → after_word xs ≡ past (drop n xs) → cond b (Some xs) (after_word xs) ≡ past (drop (cond (not b) (1 + n) 0) (x ∷ xs))
+    turned true n e = refl
+    turned false n e = let h : suc n ≡ 1 + n = omega arith in e ∙ ap (λ k. past (drop k (x ∷ xs))) h
 
-pub after-found : (xs : List ℕ) (i : ℕ) → i < length xs → get_or xs i 0 ≡ 32 → after_word xs ≡ after_word (drop i xs) → Some (drop (i + 1) xs) ≡ after_word xs
-after-found xs i lt h e =
-    let c = get_or xs i 0 in
-    let d = drop (i + 1) xs in
-    sym (e ∙ (ap after_word (drop_more xs i 0 lt) ∙ cond-true (eqb c 32) (Some d) (after_word d) (eq-eqb c 32 h)))
+-- the first word and what stands after it, by the place of the first space
+pub word-cut : (xs : List ℕ) (r : Option ℕ) → r ≡ position (λ c. c == 32) xs → MatchOption r ((xs ≡ word_of xs) × (None ≡ after_word xs)) (λ i. (take i xs ≡ word_of xs) × (Some (drop (i + 1) xs) ≡ after_word xs))
+word-cut xs r is = rw is (split (nat_lt n (length xs)) refl)
+  where
+    n : ℕ
+    n = space xs
 
-pub after-all : (xs : List ℕ) (i : ℕ) → length xs ≤ i → after_word xs ≡ after_word (drop i xs) → None ≡ after_word xs
-after-all xs i le e = sym (e ∙ ap after_word (drop_all i xs le))
+    split : (b : Bool) → nat_lt n (length xs) ≡ b → MatchOption (cond b (Some n) None) ((xs ≡ word_of xs) × (None ≡ after_word xs)) (λ i. (take i xs ≡ word_of xs) × (Some (drop (i + 1) xs) ≡ after_word xs))
+    split true e = (sym (word-space xs), sym (after-space xs ∙ ap past (drop_more xs n 0 (ltb-true n (length xs) e))))
+    split false e =
+        let all : length xs ≤ n = ltb-false n (length xs) e in
+        (sym (word-space xs ∙ take_all n xs all), sym (after-space xs ∙ ap past (drop_all n xs all)))
+
+pub string-taken : (text : Option (List ℕ)) (word : List ℕ) (rest : Option (List ℕ)) → Some word ≡ option_map word_of text → rest ≡ left_after text → option_map (λ s. record { word = s; rest = rest }) (hex_of 16 word) ≡ string_word text
+string-taken (Some t) word rest e f = let h : word ≡ word_of t = cc in rw (h, f) refl
+string-taken None word rest e f = cc
 
 -- hex digits
 
@@ -56,30 +67,39 @@ following-nil : (o : Option (List ℕ)) → o ≡ following [] o
 following-nil (Some r) = refl
 following-nil None = refl
 
-pub hex-none : (xs : List ℕ) → hex_bytes xs ≡ following [] (hex_bytes (drop (2 * 0) xs))
+pub hex-none : (xs : List ℕ) → hex_bytes xs ≡ following [] (hex_bytes xs)
 hex-none xs = following-nil (hex_bytes xs)
 
-hex-two : (xs : List ℕ) (i : ℕ) → 2 * i + 1 < length xs → drop (2 * i) xs ≡ get_or xs (2 * i) 0 ∷ (get_or xs (2 * i + 1) 0 ∷ drop (2 * (i + 1)) xs)
-hex-two xs i lt =
-    let here : 2 * i < length xs = omega arith in
-    let step : 2 * i + 1 + 1 ≡ 2 * (i + 1) = omega arith in
-    drop_more xs (2 * i) 0 here
-    ∙ ap (λ t. get_or xs (2 * i) 0 ∷ t) (drop_more xs (2 * i + 1) 0 lt ∙ ap (λ n. get_or xs (2 * i + 1) 0 ∷ drop n xs) step)
+hex-pair : (xs : List ℕ) → 2 ≤ length xs → hex_bytes xs ≡ onto (byte_of (digit_value (get_or xs 0 0)) (digit_value (get_or xs 1 0))) (hex_bytes (drop 2 xs))
+hex-pair [] h = absurd (omega arith)
+hex-pair (a ∷ []) h = absurd (omega arith)
+hex-pair (a ∷ (b ∷ rest)) h = refl
 
-pub hex-more : (xs out : List ℕ) (i b : ℕ) → 2 * i + 1 < length xs → byte_of (digit_value (get_or xs (2 * i) 0)) (digit_value (get_or xs (2 * i + 1) 0)) ≡ Some b → hex_bytes xs ≡ following out (hex_bytes (drop (2 * i) xs)) → hex_bytes xs ≡ following (out ++ b ∷ []) (hex_bytes (drop (2 * (i + 1)) xs))
-hex-more xs out i b lt is e =
-    let d = hex_bytes (drop (2 * (i + 1)) xs) in
+pub hex-more : (xs out rest : List ℕ) (i b : ℕ) → i < length out → 2 ≤ length rest → byte_of (digit_value (get_or rest 0 0)) (digit_value (get_or rest 1 0)) ≡ Some b → hex_bytes xs ≡ following (take i out) (hex_bytes rest) → hex_bytes xs ≡ following (take (i + 1) (set out i b)) (hex_bytes (drop 2 rest))
+hex-more xs out rest i b lt two is e =
+    let d = hex_bytes (drop 2 rest) in
     e
-    ∙ (ap (λ t. following out (hex_bytes t)) (hex-two xs i lt)
-    ∙ (ap (λ o. following out (onto o d)) is ∙ onto-following out b d))
+    ∙ (ap (following (take i out)) (hex-pair rest two ∙ ap (λ o. onto o d) is)
+    ∙ (onto-following (take i out) b d ∙ ap (λ t. following t d) (sym (take_more_set out i b lt))))
 
-pub hex-bad : (xs out : List ℕ) (i : ℕ) → 2 * i + 1 < length xs → byte_of (digit_value (get_or xs (2 * i) 0)) (digit_value (get_or xs (2 * i + 1) 0)) ≡ None → hex_bytes xs ≡ following out (hex_bytes (drop (2 * i) xs)) → hex_bytes xs ≡ None
-hex-bad xs out i lt is e =
-    let d = hex_bytes (drop (2 * (i + 1)) xs) in
-    e ∙ (ap (λ t. following out (hex_bytes t)) (hex-two xs i lt) ∙ ap (λ o. following out (onto o d)) is)
+other-length : (n : ℕ) (bs : List ℕ) → (length bs ≡ n → ⊥) → of_length n (Some bs) ≡ None
+other-length n bs ne = cond-false (eqb (length bs) n) (Some bs) None (ne_eqb (length bs) n ne)
 
-pub hex-all : (xs out : List ℕ) (i : ℕ) → length xs ≤ 2 * i → hex_bytes xs ≡ following out (hex_bytes (drop (2 * i) xs)) → hex_bytes xs ≡ Some out
-hex-all xs out i le e = e ∙ (ap (λ t. following out (hex_bytes t)) (drop_all (2 * i) xs le) ∙ ap Some (append-nil out))
+more-follows : (out : List ℕ) (o : Option ℕ) (r : Option (List ℕ)) → None ≡ of_length (length out) (following out (onto o r))
+more-follows out (Some b) (Some bs) = sym (other-length (length out) (out ++ b ∷ bs) (λ h. omega (arith, length-append out (b ∷ bs))))
+more-follows out (Some b) None = refl
+more-follows out None r = refl
+
+none-left : (out : List ℕ) (n : ℕ) → 0 < n → option_map (λ x. out) (then_some (n == 0) (tt {0})) ≡ None
+none-left out n h = ap (λ b. option_map (λ x. out) (then_some b (tt {0}))) (ne_eqb n 0 (λ e. omega arith))
+
+pub hex-full : (xs out rest : List ℕ) (n : ℕ) → length out ≡ n → hex_bytes xs ≡ following out (hex_bytes rest) → option_map (λ x. out) (then_some (length rest == 0) (tt {0})) ≡ hex_of n xs
+hex-full xs out [] n long e = sym (ap (of_length n) (e ∙ ap Some (append-nil out)) ∙ cond-true (eqb (length out) n) (Some out) None (eq-eqb (length out) n long))
+hex-full xs out (a ∷ []) n long e = none-left out 1 (omega arith) ∙ sym (ap (of_length n) e)
+hex-full xs out (a ∷ (b ∷ rest)) n long e =
+    none-left out (length (a ∷ (b ∷ rest))) (omega arith)
+    ∙ (more-follows out (byte_of (digit_value a) (digit_value b)) (hex_bytes rest)
+    ∙ (ap (λ k. of_length k (following out (hex_bytes (a ∷ (b ∷ rest))))) long ∙ sym (ap (of_length n) e)))
 
 sized-onto : (o : Option ℕ) (r : Option (List ℕ)) (n : ℕ) → IfSome r (λ bs. n ≡ 2 * length bs) → IfSome (onto o r) (λ bs. suc (suc n) ≡ 2 * length bs)
 sized-onto (Some b) (Some bs) n e = omega arith
@@ -91,57 +111,30 @@ hex-sized [] = refl
 hex-sized (a ∷ []) = tt
 hex-sized (a ∷ (b ∷ rest)) = sized-onto (byte_of (digit_value a) (digit_value b)) (hex_bytes rest) (length rest) (hex-sized rest)
 
-sized-odd : (o : Option (List ℕ)) (n : ℕ) → IfSome o (λ bs. n ≡ 2 * length bs) → (n % 2 ≡ 0 → ⊥) → o ≡ None
-sized-odd (Some bs) n e odd = absurd (odd (omega arith))
-sized-odd None n e odd = refl
+half-of : (o : Option (List ℕ)) (n : ℕ) → IfSome o (λ bs. n ≡ 2 * length bs) → of_length (n / 2) o ≡ o
+half-of (Some bs) n e = cond-true (eqb (length bs) (n / 2)) (Some bs) None (eq-eqb (length bs) (n / 2) (omega arith))
+half-of None n e = refl
 
-pub hex-odd : (xs : List ℕ) → (length xs % 2 ≡ 0 → ⊥) → hex_bytes xs ≡ None
-hex-odd xs odd = sized-odd (hex_bytes xs) (length xs) (hex-sized xs) odd
-
-sized-other : (o : Option (List ℕ)) (n k : ℕ) → IfSome o (λ bs. n ≡ 2 * length bs) → (n ≡ 2 * k → ⊥) → of_length k o ≡ None
-sized-other (Some bs) n k e ne = cond-false (eqb (length bs) k) (Some bs) None (ne_eqb (length bs) k (λ s. ne (omega arith)))
-sized-other None n k e ne = refl
-
-pub hex-other : (xs : List ℕ) (k : ℕ) → (length xs ≡ 2 * k → ⊥) → hex_of k xs ≡ None
-hex-other xs k ne = sized-other (hex_bytes xs) (length xs) k (hex-sized xs) ne
-
-pub hex-exact : (xs out : List ℕ) (k : ℕ) → length out ≡ k → hex_bytes xs ≡ Some out → hex_of k xs ≡ Some out
-hex-exact xs out k long e =
-    ap (of_length k) e ∙ cond-true (eqb (length out) k) (Some out) None (eq-eqb (length out) k long)
+-- a text of n digits names no other number of bytes than half of n
+pub hex-half : (xs : List ℕ) → hex_of (length xs / 2) xs ≡ hex_bytes xs
+hex-half xs = half-of (hex_bytes xs) (length xs) (hex-sized xs)
 
 -- numbers
 
-pub number-start : (most : ℕ) (xs : List ℕ) → 0 < length xs → number_rule most xs ≡ at_most most (number_from 0 xs)
-number-start most [] h = absurd (omega arith)
-number-start most (c ∷ rest) h = refl
-
-pub number_more : (most v : ℕ) (xs : List ℕ) (i : ℕ) → i < length xs → 48 ≤ get_or xs i 0 → get_or xs i 0 ≤ 57 → at_most most (number_from v (drop i xs)) ≡ at_most most (number_from (10 * v + (get_or xs i 0 - 48)) (drop (i + 1) xs))
-number_more most v xs i lt low high =
-    let c = get_or xs i 0 in
-    let d = drop (i + 1) xs in
-    ap (λ t. at_most most (number_from v t)) (drop_more xs i 0 lt)
-    ∙ ap (at_most most) (cond-true (leb 48 c && leb c 57) (number_from (10 * v + (c - 48)) d) None (and_from (leb 48 c) (leb c 57) (le-leb 48 c low) (le-leb c 57 high)))
-
-pub number-bad : (most v : ℕ) (xs : List ℕ) (i : ℕ) → i < length xs → (get_or xs i 0 < 48) ⊎ (57 < get_or xs i 0) → at_most most (number_from v (drop i xs)) ≡ None
-number-bad most v xs i lt bad =
-    let c = get_or xs i 0 in
-    let d = drop (i + 1) xs in
-    let off : (leb 48 c && leb c 57) ≡ false =
-    ⊎_elim (λ h. and_left (leb 48 c) (leb c 57) (lt-leb 48 c h)) (λ h. and_right (leb 48 c) (leb c 57) (lt-leb c 57 h)) bad in
-    ap (λ t. at_most most (number_from v t)) (drop_more xs i 0 lt)
-    ∙ ap (at_most most) (cond-false (leb 48 c && leb c 57) (number_from (10 * v + (c - 48)) d) None off)
+none-either : (most : ℕ) (t : Bool) (o : Option ℕ) → at_most most o ≡ None → at_most most (cond t o None) ≡ None
+none-either most true o e = e
+none-either most false o e = refl
 
 -- a number that is too large stays so
-pub number-over : (most v : ℕ) (xs : List ℕ) → most < v → at_most most (number_from v xs) ≡ None
+number-over : (most v : ℕ) (xs : List ℕ) → most < v → at_most most (number_from v xs) ≡ None
 number-over most v [] over = cond-false (leb v most) (Some v) None (lt-leb v most over)
-number-over most v (c ∷ rest) over =
-    let more : most < 10 * v + (c - 48) = omega arith in
-    let t = leb 48 c && leb c 57 in
-    ⊎_elim
-    (λ e. ap (at_most most) (cond-true t (number_from (10 * v + (c - 48)) rest) None e) ∙ number-over most (10 * v + (c - 48)) rest more)
-    (λ e. ap (at_most most) (cond-false t (number_from (10 * v + (c - 48)) rest) None e))
-    (cases_Bool t)
+number-over most v (c ∷ rest) over = none-either most (leb 48 c && leb c 57) (number_from (10 * v + (c - 48)) rest) (number-over most (10 * v + (c - 48)) rest (omega arith))
 
-pub number-all : (most v : ℕ) (xs : List ℕ) (i : ℕ) → length xs ≤ i → v ≤ most → at_most most (number_from v (drop i xs)) ≡ Some v
-number-all most v xs i le within =
-    ap (λ t. at_most most (number_from v t)) (drop_all i xs le) ∙ cond-true (leb v most) (Some v) None (le-leb v most within)
+-- so does one that the next digit makes too large
+pub number-past : (most v : ℕ) (xs : List ℕ) (i : ℕ) → i < length xs → most < 10 * v + (get_or xs i 0 - 48) → None ≡ at_most most (number_from v (drop i xs))
+number-past most v xs i lt over =
+    let c = get_or xs i 0 in
+    let rest = drop (i + 1) xs in
+    sym
+    (ap (λ t. at_most most (number_from v t)) (drop_more xs i 0 lt)
+    ∙ none-either most (leb 48 c && leb c 57) (number_from (10 * v + (c - 48)) rest) (number-over most (10 * v + (c - 48)) rest over))

@@ -1,14 +1,10 @@
 -- Bytes as hex digits.
 -- Assumes nothing.
-use Rattle.std.specs.Prelude.{ℕ, ◌+◌, ◌-◌, ◌*◌, cond, ◌&&◌, List, [], ◌∷◌, length, Some, None, Option, ◌==◌, nat_le, nat_lt}
+use Rattle.std.specs.Prelude.{ℕ, ◌+◌, ◌-◌, ◌*◌, cond, ◌&&◌, List, [], ◌∷◌, length, Some, None, Option, ◌==◌, nat_le}
 
 -- what a digit stands for: 0 to 9 from 48 on, a to f from 97 on
 abbrev pub digit_value : ℕ → Option ℕ
 digit_value c = cond (nat_le 48 c && nat_le c 57) (Some (c - 48)) (cond (nat_le 97 c && nat_le c 102) (Some (c - 87)) None)
-
--- and back
-abbrev pub digit_of : ℕ → ℕ
-digit_of n = cond (nat_lt n 10) (48 + n) (87 + n)
 
 -- the byte that two digits name
 abbrev pub byte_of : Option ℕ → Option ℕ → Option ℕ

@@ -4,8 +4,7 @@ use Rattle.std.specs.Prelude.{ℕ, cond, List, [], ◌∷◌, Some, None, Option
 use Rattle.std.specs.Option.{option_map}
 use Rattle.scripts.specs.Digits.{number_rule}
 use Rattle.scripts.specs.Hex.{hex_of}
-use Rattle.scripts.specs.declared.words.ByteWord.{ByteWord}
-use Rattle.scripts.specs.declared.words.StringWord.{StringWord}
+use Rattle.scripts.specs.declared.words.Words.{Words}
 
 -- what stands before the first space
 abbrev pub word_of : List ℕ → List ℕ
@@ -34,8 +33,10 @@ byte_word text = and_then text (λ t. option_map (λ n. record { word = n; rest 
 abbrev pub string_word : Option (List ℕ) → Option (Read (List ℕ))
 string_word text = and_then text (λ t. option_map (λ s. record { word = s; rest = after_word t }) (hex_of 16 (word_of t)))
 
-abbrev pub byte_word_of : ByteWord → Read ℕ
-byte_word_of w = record { word = w.byte; rest = option_map (λ x. x.now) w.rest }
+-- what is left of a line
+abbrev pub left_of : Words → Option (List ℕ)
+left_of w = option_map (λ x. x.now) w.text
 
-abbrev pub string_word_of : StringWord → Read (List ℕ)
-string_word_of w = record { word = w.string; rest = option_map (λ x. x.now) w.rest }
+-- what is left of it after a word
+abbrev pub left_after : Option (List ℕ) → Option (List ℕ)
+left_after text = and_then text after_word

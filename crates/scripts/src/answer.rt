@@ -1,5 +1,4 @@
 // Answers, and the lines that are printed of them.
-use crate::hex;
 use std::fmt;
 use verifier::Refusal;
 
@@ -37,25 +36,23 @@ pub enum Answer {
     NotACall,
 }
 
-// Writes bytes as hex digits.
-fn write_hex<W: fmt::Write>(f: &mut fmt::Formatter<W>, bytes: &[u8]) -> fmt::Result {
-    for byte in bytes {
-        let high = char::from(hex::digit(*byte / 16));
-        let low = char::from(hex::digit(*byte % 16));
-        write!(f, "{high}{low}")?;
+// Bytes, printed as hex digits.
+#[derive(Clone, Copy)]
+struct Hex<'a>(&'a [u8]);
+
+impl fmt::Display for Hex<'_> {
+    fn fmt<W: fmt::Write>(&self, f: &mut fmt::Formatter<W>) -> fmt::Result {
+        for byte in self.0 {
+            write!(f, "{byte:02x}")?;
+        }
+        Ok(())
     }
-    Ok(())
 }
 
-// Writes nodes, a space before each.
-fn write_nodes<W: fmt::Write>(f: &mut fmt::Formatter<W>, nodes: &[Node]) -> fmt::Result {
-    for held in nodes {
-        let level = held.level;
-        let position = held.position;
-        write!(f, " {level}:{position}:")?;
-        write_hex(f, &held.node)?;
+impl fmt::Display for Node {
+    fn fmt<W: fmt::Write>(&self, f: &mut fmt::Formatter<W>) -> fmt::Result {
+        write!(f, "{}:{}:{}", self.level, self.position, Hex(&self.node))
     }
-    Ok(())
 }
 
 // A line, without its end.
@@ -66,28 +63,27 @@ impl fmt::Display for Answer {
             Answer::Grown(grown) => write!(f, "grown {grown}"),
             Answer::Nodes(nodes) => {
                 write!(f, "nodes")?;
-                write_nodes(f, nodes.as_slice())
+                for node in nodes {
+                    write!(f, " {node}")?;
+                }
+                Ok(())
             }
             Answer::Finished => write!(f, "finished"),
-            Answer::Key(record) => {
-                write!(f, "key ")?;
-                write_hex(f, record.as_slice())
-            }
+            Answer::Key(record) => write!(f, "key {}", Hex(record.as_slice())),
             Answer::Signed { leaf, record } => {
-                write!(f, "leaf {leaf} record ")?;
-                write_hex(f, record.as_slice())
+                write!(f, "leaf {leaf} record {}", Hex(record.as_slice()))
             }
             Answer::Next(next) => write!(f, "next {next}"),
             Answer::Retired => write!(f, "retired"),
-            Answer::Verdict { numbers, report } => {
-                let (verdict, first, second) = *numbers;
-                write!(f, "verdict {verdict} {first} {second} report ")?;
-                write_hex(f, report)
-            }
-            Answer::Refused(refusal) => {
-                let number = refusal.number();
-                write!(f, "refused {number}")
-            }
+            Answer::Verdict {
+                numbers: (verdict, first, second),
+                report,
+            } => write!(
+                f,
+                "verdict {verdict} {first} {second} report {}",
+                Hex(report)
+            ),
+            Answer::Refused(refusal) => write!(f, "refused {refusal}"),
             Answer::NotNow => write!(f, "not now"),
             Answer::NotACall => write!(f, "not a call"),
         }

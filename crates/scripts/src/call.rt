@@ -2,10 +2,11 @@
 ghost use Rattle.std.specs.Prelude.{◌≡◌, IfOk, vec_items};
 ghost use Rattle.std.specs.Option.{option_map};
 ghost use Rattle.scripts.specs.Calls.{said, alone, room_rule, read_key, read_sign, read_skip, read_trace, read_call, record_rule};
+ghost use Rattle.scripts.specs.Words.{left_of};
 
 use crate::digits::number;
 use crate::hex;
-use crate::words::{is, string_word};
+use crate::words::Words;
 use std::alloc::{AllocError, Global};
 
 // The output's size where none is given: as much as any record takes.
@@ -27,48 +28,44 @@ pub enum Call {
 }
 
 // A call that takes no word more.
-fn alone_call(call: Call, rest: Option<&[u8]>) -> Option<Call>
-    ensures { option_map said result ≡ alone (said call) (option_map (λ x. x.now) rest.entry) }
+fn alone_call(call: Call, words: Words<'_>) -> Option<Call>
+    ensures { option_map said result ≡ alone (said call) (left_of words.entry) }
 {
-    match rest {
-        None => Some(call),
-        Some(_) => None,
-    }
+    words.text.is_none().then_some(call)
 }
 
 // ROOM, which may be left out.
-fn read_room(text: Option<&[u8]>) -> Option<u32>
-    ensures { result ≡ room_rule (option_map (λ x. x.now) text.entry) }
+fn read_room(words: Words<'_>) -> Option<u32>
+    ensures { result ≡ room_rule (left_of words.entry) }
 {
-    match text {
+    match words.text {
         None => Some(ROOM),
         Some(text) => number(text, MOST_ROOM),
     }
 }
 
 // key [ROOM]
-fn read_key(rest: Option<&[u8]>) -> Option<Call>
-    ensures { option_map said result ≡ read_key (option_map (λ x. x.now) rest.entry) }
+fn read_key(words: Words<'_>) -> Option<Call>
+    ensures { option_map said result ≡ read_key (left_of words.entry) }
 {
-    let room = read_room(rest)?;
+    let room = read_room(words)?;
     Some(Call::Key { room })
 }
 
 // sign STAMP [ROOM]
-fn read_sign(rest: Option<&[u8]>) -> Option<Call>
-    ensures { option_map said result ≡ read_sign (option_map (λ x. x.now) rest.entry) }
+fn read_sign(mut words: Words<'_>) -> Option<Call>
+    ensures { option_map said result ≡ read_sign (left_of words.entry) }
 {
-    let word = string_word(rest)?;
-    let room = read_room(word.rest)?;
-    let stamp = word.string;
+    let stamp = words.string()?;
+    let room = read_room(words)?;
     Some(Call::Sign { stamp, room })
 }
 
 // skip N
-fn read_skip(rest: Option<&[u8]>) -> Option<Call>
-    ensures { option_map said result ≡ read_skip (option_map (λ x. x.now) rest.entry) }
+fn read_skip(words: Words<'_>) -> Option<Call>
+    ensures { option_map said result ≡ read_skip (left_of words.entry) }
 {
-    let leaf = number(rest?, u16::MAX as u32)?;
+    let leaf = number(words.text?, u16::MAX as u32)?;
     Some(Call::Skip { leaf: leaf as u16 })
 }
 
@@ -76,59 +73,46 @@ fn read_skip(rest: Option<&[u8]>) -> Option<Call>
 fn read_record(heap: Global, text: &[u8]) -> Result<Option<Vec<u8>>, AllocError>
     ensures { IfOk result (λ o. option_map vec_items o ≡ record_rule text.now) }
 {
-    if is(text, "-") {
-        return Ok(Some(Vec::new(heap)));
+    match text {
+        b"-" => Ok(Some(Vec::new(heap))),
+        [] => Ok(None),
+        _ => hex::bytes(heap, text),
     }
-    if text.is_empty() {
-        return Ok(None);
-    }
-    hex::bytes(heap, text)
 }
 
 // trace STAMP RECORD
-fn read_trace(heap: Global, rest: Option<&[u8]>) -> Result<Option<Call>, AllocError>
-    ensures { IfOk result (λ o. option_map said o ≡ read_trace (option_map (λ x. x.now) rest.entry)) }
+fn read_trace(heap: Global, mut words: Words<'_>) -> Result<Option<Call>, AllocError>
+    ensures { IfOk result (λ o. option_map said o ≡ read_trace (left_of words.entry)) }
 {
-    let Some(word) = string_word(rest) else {
+    let Some(stamp) = words.string() else {
         return Ok(None);
     };
-    let Some(text) = word.rest else {
+    let Some(text) = words.text else {
         return Ok(None);
     };
-    let stamp = word.string;
-    match read_record(heap, text)? {
-        Some(record) => Ok(Some(Call::Trace { stamp, record })),
-        None => Ok(None),
-    }
+    let record = read_record(heap, text)?;
+    Ok(record.map(|record| Call::Trace { stamp, record }))
 }
 
 impl Call {
     // The call with this name and these words.
     pub(crate) fn read(
         heap: Global,
-        name: &[u8],
-        rest: Option<&[u8]>,
+        name: &str,
+        words: Words<'_>,
     ) -> Result<Option<Call>, AllocError>
-        ensures { IfOk result (λ o. option_map said o ≡ read_call name.now (option_map (λ x. x.now) rest.entry)) }
+        ensures { IfOk result (λ o. option_map said o ≡ read_call name.now (left_of words.entry)) }
     {
-        if is(name, "grow") {
-            Ok(alone_call(Call::Grow, rest))
-        } else if is(name, "nodes") {
-            Ok(alone_call(Call::Nodes, rest))
-        } else if is(name, "finish") {
-            Ok(alone_call(Call::Finish, rest))
-        } else if is(name, "key") {
-            Ok(read_key(rest))
-        } else if is(name, "sign") {
-            Ok(read_sign(rest))
-        } else if is(name, "skip") {
-            Ok(read_skip(rest))
-        } else if is(name, "retire") {
-            Ok(alone_call(Call::Retire, rest))
-        } else if is(name, "trace") {
-            read_trace(heap, rest)
-        } else {
-            Ok(None)
+        match name {
+            "grow" => Ok(alone_call(Call::Grow, words)),
+            "nodes" => Ok(alone_call(Call::Nodes, words)),
+            "finish" => Ok(alone_call(Call::Finish, words)),
+            "key" => Ok(read_key(words)),
+            "sign" => Ok(read_sign(words)),
+            "skip" => Ok(read_skip(words)),
+            "retire" => Ok(alone_call(Call::Retire, words)),
+            "trace" => read_trace(heap, words),
+            _ => Ok(None),
         }
     }
 }

@@ -12,14 +12,8 @@ pub(crate) fn number(text: &[u8], most: u32) -> Option<u32>
     }
     let mut value: u32 = 0;
     for digit in text {
-        if *digit < b'0' || *digit > b'9' {
-            return None;
-        }
-        let next = 10 * value as u64 + (*digit - b'0') as u64;
-        if next > most as u64 {
-            return None;
-        }
-        value = next as u32;
+        let digit = char::from(*digit).to_digit(10)?;
+        value = value.checked_mul(10)?.checked_add(digit)?;
     }
-    Some(value)
+    (value <= most).then_some(value)
 }

@@ -1,9 +1,9 @@
 // A line of a script.
 ghost use Rattle.std.specs.Prelude.{◌≡◌, IfOk};
-ghost use Rattle.std.specs.Option.{option_map};
-ghost use Rattle.scripts.specs.Lines.{line_of, line_rule, begin_line, read_begin};
+ghost use Rattle.scripts.specs.Lines.{line_of, line_rule, read_begin};
+ghost use Rattle.scripts.specs.Words.{left_of};
 
-use crate::words::{byte_word, is, split_word, string_word};
+use crate::words::{Words, split_word};
 use crate::{Begin, Call, hex};
 use std::alloc::{AllocError, Global};
 
@@ -20,35 +20,23 @@ pub enum Line {
 }
 
 // begin HASH CODE HEIGHT SEED HASHKEY MASKS
-fn read_begin(rest: Option<&[u8]>) -> Option<Begin>
-    ensures { result ≡ read_begin (option_map (λ x. x.now) rest.entry) }
+fn read_begin(mut words: Words<'_>) -> Option<Begin>
+    ensures { result ≡ read_begin (left_of words.entry) }
 {
-    let hash = byte_word(rest)?;
-    let code = byte_word(hash.rest)?;
-    let height = byte_word(code.rest)?;
-    let seed = string_word(height.rest)?;
-    let hash_key = string_word(seed.rest)?;
-    let masks = hex::array::<512>(hash_key.rest?)?;
-    let seed = seed.string;
-    let hash_key = hash_key.string;
+    let hash = words.byte()?;
+    let code = words.byte()?;
+    let height = words.byte()?;
+    let seed = words.string()?;
+    let hash_key = words.string()?;
+    let masks = hex::array(words.text?)?;
     Some(Begin {
-        hash: hash.byte,
-        code: code.byte,
-        height: height.byte,
+        hash,
+        code,
+        height,
         seed,
         hash_key,
         masks,
     })
-}
-
-// What a begin line with these words asks for.
-fn begin_line(rest: Option<&[u8]>) -> Line
-    ensures { line_of result ≡ begin_line (read_begin (option_map (λ x. x.now) rest.entry)) }
-{
-    match read_begin(rest) {
-        Some(begin) => Line::Begin(begin),
-        None => Line::NoCall,
-    }
 }
 
 impl Line {
@@ -56,19 +44,19 @@ impl Line {
     pub fn read(heap: Global, text: &[u8]) -> Result<Line, AllocError>
         ensures { IfOk result (λ line. line_of line ≡ line_rule text.now) }
     {
-        if text.is_empty() || text[0] == b'#' {
+        if let [] | [b'#', ..] = text {
             return Ok(Line::Silent);
         }
         if text.len() > LONGEST {
             return Ok(Line::NoCall);
         }
-        let (name, rest) = split_word(text);
-        if is(name, "begin") {
-            return Ok(begin_line(rest));
-        }
-        match Call::read(heap, name, rest)? {
-            Some(call) => Ok(Line::Call(call)),
-            None => Ok(Line::NoCall),
+        let (name, words) = split_word(text);
+        let Ok(name) = str::from_utf8(name) else {
+            return Ok(Line::NoCall);
+        };
+        match name {
+            "begin" => Ok(read_begin(words).map_or(Line::NoCall, Line::Begin)),
+            _ => Ok(Call::read(heap, name, words)?.map_or(Line::NoCall, Line::Call)),
         }
     }
 }

@@ -15,6 +15,7 @@ use signer::{Maker, Plan, Retired, Signer};
 use signer_calls::in_service;
 use std::alloc::{AllocError, Global};
 
+mod holder;
 mod maker_calls;
 mod outputs;
 mod retired_calls;

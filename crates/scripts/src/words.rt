@@ -1,61 +1,62 @@
 // Words with single spaces between them.
-ghost use Rattle.std.specs.Prelude.{◌≡◌};
+ghost use Rattle.std.specs.Prelude.{◌≡◌, position, ◌==◌};
 ghost use Rattle.std.specs.Option.{option_map};
-ghost use Rattle.std.specs.Str.{bytes_eq};
-ghost use Rattle.scripts.specs.Words.{word_of, after_word, byte_word, byte_word_of, string_word, string_word_of};
+ghost use Rattle.scripts.specs.Words.{word_of, after_word, left_of, left_after, byte_word, string_word};
 
 use crate::digits::number;
 use crate::hex;
 
-// A first word that is a number of at most 255, and what follows the space after it, where there is one.
+// The words of a line that are left, where any are.
 #[derive(Clone, Copy)]
-pub struct ByteWord<'a> {
-    pub byte: u8,
-    pub rest: Option<&'a [u8]>,
+pub struct Words<'a> {
+    pub text: Option<&'a [u8]>,
 }
 
-// A first word that is a string, and what follows the space after it, where there is one.
-#[derive(Clone, Copy)]
-pub struct StringWord<'a> {
-    pub string: [u8; 16],
-    pub rest: Option<&'a [u8]>,
-}
-
-// Whether a word is this one.
-pub(crate) fn is(word: &[u8], name: &str) -> bool
-    ensures { result ≡ bytes_eq word.now name.now }
+// Where the first space of a text is.
+fn first_space(text: &[u8]) -> Option<usize>
+    ensures { result ≡ position (λ c. c == 32) text.now }
 {
-    word == name.as_bytes()
+    text.iter().position(|byte| *byte == b' ')
 }
 
-// The first word of a text, and what follows the space after it, where there is one.
-pub(crate) fn split_word(text: &[u8]) -> (&[u8], Option<&[u8]>)
+// The first word of a text, and what follows the space after it.
+pub(crate) fn split_word(text: &[u8]) -> (&[u8], Words<'_>)
     ensures word { result.0.now ≡ word_of text.now }
-    ensures rest { option_map (λ x. x.now) result.1 ≡ after_word text.now }
+    ensures rest { left_of result.1 ≡ after_word text.now }
 {
-    for i in 0..text.len() {
-        if text[i] == b' ' {
-            return (&text[0..i], Some(&text[i + 1..text.len()]));
-        }
+    match first_space(text) {
+        Some(at) => (
+            &text[..at],
+            Words {
+                text: Some(&text[at + 1..]),
+            },
+        ),
+        None => (text, Words { text: None }),
     }
-    (text, None)
 }
 
-pub(crate) fn byte_word(text: Option<&[u8]>) -> Option<ByteWord<'_>>
-    ensures { option_map byte_word_of result ≡ byte_word (option_map (λ x. x.now) text.entry) }
-{
-    let (word, rest) = split_word(text?);
-    let byte = number(word, 255)?;
-    Some(ByteWord {
-        byte: byte as u8,
-        rest,
-    })
-}
+impl<'a> Words<'a> {
+    // Takes the first word.
+    fn next(&mut self) -> Option<&'a [u8]>
+        ensures word { option_map (λ x. x.now) result ≡ option_map word_of (left_of self.old) }
+        ensures rest { left_of self.new ≡ left_after (left_of self.old) }
+    {
+        let (word, rest) = split_word(self.text?);
+        *self = rest;
+        Some(word)
+    }
 
-pub(crate) fn string_word(text: Option<&[u8]>) -> Option<StringWord<'_>>
-    ensures { option_map string_word_of result ≡ string_word (option_map (λ x. x.now) text.entry) }
-{
-    let (word, rest) = split_word(text?);
-    let string = hex::array::<16>(word)?;
-    Some(StringWord { string, rest })
+    // Takes the first word, a number of at most 255.
+    pub(crate) fn byte(&mut self) -> Option<u8>
+        ensures { option_map (λ n. record { word = n; rest = left_of self.new }) result ≡ byte_word (left_of self.old) }
+    {
+        Some(number(self.next()?, 255)? as u8)
+    }
+
+    // Takes the first word, a string.
+    pub(crate) fn string(&mut self) -> Option<[u8; 16]>
+        ensures { option_map (λ s. record { word = s; rest = left_of self.new }) result ≡ string_word (left_of self.old) }
+    {
+        hex::array(self.next()?)
+    }
 }

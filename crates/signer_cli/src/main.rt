@@ -6,8 +6,7 @@ use hashes::TreeHash;
 use schemes::Task;
 use scripts::{Answer, Begin, Call, LONGEST, Line, Session, Start};
 use signer::Plan;
-use std::io;
-use std::io::{BufReader, Read, Stdin};
+use std::io::{BufRead, BufReader, Read, Stdin};
 
 type Input = BufReader<Stdin>;
 
@@ -19,29 +18,21 @@ enum Next {
     End,
 }
 
-fn read_byte(input: &mut Input) -> io::Result<Option<u8>> {
-    let mut byte = [0; 1];
-    if input.read(&mut byte)? == 0 {
-        return Ok(None);
-    }
-    Ok(Some(byte[0]))
-}
-
 // Reads a line, without its end; of one that is too long, only so much that it shows. Answers whether there was one.
 fn read_line(input: &mut Input, line: &mut Vec<u8>) -> anyhow::Result<bool> {
     line.clear();
-    for _ in 0..u64::MAX {
-        match read_byte(input)? {
-            None => return Ok(!line.is_empty()),
-            Some(b'\n') => return Ok(true),
-            Some(byte) => {
-                if line.len() <= LONGEST {
-                    line.push(byte)?;
-                }
-            }
-        }
+    if input
+        .by_ref()
+        .take(LONGEST as u64 + 1)
+        .read_until(b'\n', line)?
+        == 0
+    {
+        return Ok(false);
     }
-    Ok(false)
+    if line.pop_if(|byte| *byte == b'\n').is_none() {
+        input.skip_until(b'\n')?;
+    }
+    Ok(true)
 }
 
 // What a line asks for. Answers one that is no call, and a begin that is refused.
@@ -49,15 +40,13 @@ fn heard(rt: &HostRuntime, line: &[u8]) -> anyhow::Result<Option<Next>> {
     match Line::read(rt.alloc(), line)? {
         Line::Silent => Ok(None),
         Line::NoCall => {
-            let answer = Answer::NotACall;
-            println!(rt; "{answer}")?;
+            println!(rt; "{}", Answer::NotACall)?;
             Ok(None)
         }
         Line::Begin(begin) => match begin.start() {
             Ok(start) => Ok(Some(Next::Begin(begin, start))),
             Err(refusal) => {
-                let answer = Answer::Refused(refusal);
-                println!(rt; "{answer}")?;
+                println!(rt; "{}", Answer::Refused(refusal))?;
                 Ok(None)
             }
         },
@@ -113,13 +102,6 @@ impl Task for Serve<'_, '_> {
     }
 }
 
-// Before the first begin no call is answered.
-fn idle(rt: &HostRuntime) -> anyhow::Result<()> {
-    let answer = Answer::NotNow;
-    println!(rt; "{answer}")?;
-    Ok(())
-}
-
 fn main(rt: HostRuntime) -> anyhow::Result<()> {
     let mut input = BufReader::new(rt.alloc(), rt.stdin())?;
     let mut next = listen(&rt, &mut input)?;
@@ -131,8 +113,9 @@ fn main(rt: HostRuntime) -> anyhow::Result<()> {
                 begin: &begin,
                 plan: start.plan,
             })?,
+            // Before the first begin no call is answered.
             Next::Call(_) => {
-                idle(&rt)?;
+                println!(rt; "{}", Answer::NotNow)?;
                 listen(&rt, &mut input)?
             }
             Next::End => return Ok(()),

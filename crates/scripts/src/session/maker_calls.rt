@@ -24,8 +24,7 @@ fn held_nodes<H: TreeHash, C: Code>(
     let mut nodes = Vec::new(heap);
     for level in 0..9u8 {
         if let Some(held) = maker.held(level) {
-            let position = held.0;
-            let node = held.1;
+            let (position, node) = held;
             nodes.push(Node {
                 level,
                 position,
@@ -41,10 +40,9 @@ fn grow<H: TreeHash, C: Code>(maker: &mut Maker<H, C>) -> Answer
     ensures state { making_of maker.new ≡ grow_leaves (hash_of H.ChainHash H.TreeHash.own) (code_of C.Code) (making_of maker.old) }
 {
     let mut work = [0; 4096];
-    match maker.grow(&mut work) {
-        Ok(grown) => Answer::Grown(grown),
-        Err(refusal) => Answer::Refused(refusal),
-    }
+    maker
+        .grow(&mut work)
+        .map_or_else(Answer::Refused, Answer::Grown)
 }
 
 // Answers a call of a key that is being grown.
@@ -56,20 +54,15 @@ pub(crate) fn while_growing<H: TreeHash, C: Code>(
     ensures answer { IfOk result (λ x. told x.1 ≡ reply (hash_of H.ChainHash H.TreeHash.own) (code_of C.Code) (growing (making_of maker)) (said call.now)) }
     ensures state { IfOk result (λ x. state_of x.0 ≡ leaves (hash_of H.ChainHash H.TreeHash.own) (code_of C.Code) (growing (making_of maker)) (said call.now)) }
 {
-    match call {
-        Call::Grow => {
-            let answer = grow(&mut maker);
-            Ok((Session::Growing(maker), answer))
-        }
-        Call::Nodes => {
-            let nodes = held_nodes(heap, &maker)?;
-            Ok((Session::Growing(maker), Answer::Nodes(nodes)))
-        }
+    let answer = match call {
+        Call::Grow => grow(&mut maker),
+        Call::Nodes => Answer::Nodes(held_nodes(heap, &maker)?),
         Call::Finish => {
             let mut work = [0; 4096];
             let signer = maker.finish(&mut work);
-            Ok((Session::Serving(signer), Answer::Finished))
+            return Ok((Session::Serving(signer), Answer::Finished));
         }
-        _ => Ok((Session::Growing(maker), Answer::NotNow)),
-    }
+        _ => Answer::NotNow,
+    };
+    Ok((Session::Growing(maker), answer))
 }

@@ -3,29 +3,18 @@ ghost use Rattle.std.specs.Prelude.{◌≡◌, IfOk, OnOk};
 ghost use Rattle.histories.specs.Histories.{serving};
 ghost use Rattle.histories.specs.Rules.{sign_state, skip_answer, skip_state};
 ghost use Rattle.scripts.specs.Calls.{said};
-ghost use Rattle.scripts.specs.Replies.{told, next, answered, output, key_reply, sign_reply, trace_reply, state_of, reply, leaves};
+ghost use Rattle.scripts.specs.Replies.{told, next, answered, output, sign_reply, state_of, reply, leaves};
 ghost use Rattle.signer.specs.Views.{signing_of};
 ghost use Rattle.tree.specs.Meaning.{hash_of, code_of};
 
 use super::Session;
-use super::outputs::{key_answer, output_of, trace_answer};
+use super::holder::{key, trace};
+use super::outputs::output_of;
 use crate::{Answer, Call};
 use codes::Code;
 use hashes::TreeHash;
 use signer::Signer;
 use std::alloc::{AllocError, Global};
-
-fn key<H: TreeHash, C: Code>(
-    heap: Global,
-    signer: &Signer<H, C>,
-    room: u32,
-) -> Result<Answer, AllocError>
-    ensures { IfOk result (λ a. told a ≡ key_reply (hash_of H.ChainHash H.TreeHash.own) (code_of C.Code) (signing_of signer.now) room) }
-{
-    let mut out = output_of(heap, room)?;
-    let size = signer.key(out.as_mut_slice());
-    Ok(key_answer(out, size))
-}
 
 fn sign<H: TreeHash, C: Code>(
     heap: Global,
@@ -51,19 +40,7 @@ fn skip<H: TreeHash, C: Code>(signer: &mut Signer<H, C>, leaf: u16) -> Answer
     ensures answer { told result ≡ answered next (skip_answer (signing_of signer.old) leaf) }
     ensures state { signing_of signer.new ≡ skip_state (signing_of signer.old) leaf }
 {
-    match signer.skip(leaf) {
-        Ok(next) => Answer::Next(next),
-        Err(refusal) => Answer::Refused(refusal),
-    }
-}
-
-fn trace<H: TreeHash, C: Code>(signer: &Signer<H, C>, stamp: &[u8; 16], bytes: &[u8]) -> Answer
-    ensures { told result ≡ trace_reply (hash_of H.ChainHash H.TreeHash.own) (code_of C.Code) (signing_of signer.now) stamp.now bytes.now }
-{
-    let mut work = [0; 4096];
-    let mut report = [0; 64];
-    let numbers = signer.trace(stamp, bytes, &mut report, &mut work);
-    trace_answer(numbers, report)
+    signer.skip(leaf).map_or_else(Answer::Refused, Answer::Next)
 }
 
 // Answers a call of a key in service.
@@ -75,24 +52,13 @@ pub(crate) fn in_service<H: TreeHash, C: Code>(
     ensures answer { IfOk result (λ x. told x.1 ≡ reply (hash_of H.ChainHash H.TreeHash.own) (code_of C.Code) (serving (signing_of signer)) (said call.now)) }
     ensures state { IfOk result (λ x. state_of x.0 ≡ leaves (hash_of H.ChainHash H.TreeHash.own) (code_of C.Code) (serving (signing_of signer)) (said call.now)) }
 {
-    match call {
-        Call::Key { room } => {
-            let answer = key(heap, &signer, *room)?;
-            Ok((Session::Serving(signer), answer))
-        }
-        Call::Sign { stamp, room } => {
-            let answer = sign(heap, &mut signer, stamp, *room)?;
-            Ok((Session::Serving(signer), answer))
-        }
-        Call::Skip { leaf } => {
-            let answer = skip(&mut signer, *leaf);
-            Ok((Session::Serving(signer), answer))
-        }
-        Call::Retire => Ok((Session::Retired(signer.retire()), Answer::Retired)),
-        Call::Trace { stamp, record } => {
-            let answer = trace(&signer, stamp, record.as_slice());
-            Ok((Session::Serving(signer), answer))
-        }
-        _ => Ok((Session::Serving(signer), Answer::NotNow)),
-    }
+    let answer = match call {
+        Call::Key { room } => key(heap, &signer, *room)?,
+        Call::Sign { stamp, room } => sign(heap, &mut signer, stamp, *room)?,
+        Call::Skip { leaf } => skip(&mut signer, *leaf),
+        Call::Retire => return Ok((Session::Retired(signer.retire()), Answer::Retired)),
+        Call::Trace { stamp, record } => trace(&signer, stamp, record.as_slice()),
+        _ => Answer::NotNow,
+    };
+    Ok((Session::Serving(signer), answer))
 }

@@ -1,31 +1,20 @@
-use Rattle.std.proofs.Common.{◌+◌, ◌*◌, ◌<◌, ◌≤◌, length, drop, is_ok, vec_items, sym, ap, ◌∙◌, arith}
-use Rattle.std.proofs.ResultArms.{chosen}
-use Rattle.scripts.specs.Hex.{hex_bytes}
-use Rattle.scripts.proofs.Texts.{following, hex-odd, hex-bad, hex-more, hex-all}
+use Rattle.std.proofs.Common.{◌≡◌, ◌/◌, length, drop, Some, ap, ◌∙◌, arith}
+use Rattle.std.proofs.lemmas.List.{take_at}
+use Rattle.scripts.specs.Hex.{hex_of}
+use Rattle.scripts.proofs.Texts.{hex-half}
 use Rattle.scripts.proofs.hex.bytes.Goals as goal
 
-pub returns-then-text-ne0 : goal.returns-then-text-ne0
-returns-then-text-ne0 c = sym (hex-odd c.args.text.now c.if-text-ne0.true)
+pub returns-in-Some : goal.returns-in-Some
+returns-in-Some c =
+    let xs = c.args.text.now in
+    let out = c.in_ok-out.out in
+    let ws = c.fill.new.out in
+    let long : length ws ≡ out.len = omega (arith, c.as_mut_slice.ensures.len, c.fill.auto.out) in
+    let half : length c.as_mut_slice.result.now ≡ length xs / 2 = omega (arith, c.as_mut_slice.ensures.len, c.in_ok-out.ensures.len) in
+    ap Some (take_at ws (drop (length ws) out.items) out.len long) ∙ (c.in-Some.ensures ∙ (ap (λ n. hex_of n xs) half ∙ hex-half xs))
 
 pub returns-in-None : goal.returns-in-None
 returns-in-None c =
     let xs = c.args.text.now in
-    let i = c.loop-i.i in
-    let within : 2 * i + 1 < length xs = omega arith in
-    sym (hex-bad xs (vec_items c.loop-i.out) i within (sym c.byte.ensures ∙ c.in-None.is) c.loop-i.invariant)
-
-pub loop-i-preserved : goal.loop-i-preserved
-loop-i-preserved c =
-    let xs = c.args.text.now in
-    let i = c.loop-i.i in
-    let within : 2 * i + 1 < length xs = omega arith in
-    let pushed = chosen _ _ _ _ c.push.ensures.items (ap is_ok c.in_ok-push-in-Some.was) in
-    hex-more xs (vec_items c.loop-i.out) i c.in-Some.byte within (sym c.byte.ensures ∙ c.in-Some.is) c.loop-i.invariant
-    ∙ ap (λ t. following t (hex_bytes (drop (2 * (i + 1)) xs))) (sym pushed)
-
-pub returns : goal.returns
-returns c =
-    let xs = c.args.text.now in
-    let i = c.loop-i.i in
-    let all : length xs ≤ 2 * i = omega arith in
-    sym (hex-all xs (vec_items c.loop-i.out) i all c.loop-i.invariant)
+    let half : length c.as_mut_slice.result.now ≡ length xs / 2 = omega (arith, c.as_mut_slice.ensures.len, c.in_ok-out.ensures.len) in
+    c.in-None.ensures ∙ (ap (λ n. hex_of n xs) half ∙ hex-half xs)
