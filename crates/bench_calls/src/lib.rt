@@ -46,8 +46,7 @@ fn join_on<H: TreeHash>(key: &[u8; 16], left: &[u8; 16], right: &[u8; 16], turns
 {
     let mut last = *left;
     for _ in 0..turns {
-        let joined = H::pair(key, &last, right);
-        last = joined;
+        last = H::pair(key, &last, right);
     }
     last
 }

@@ -27,19 +27,24 @@ pub trait DigitWidth {
 
     ghost number_range: { NUMBER < 256 };
 
+    // A whole number of digits makes a byte.
     ghost wide: { Width WIDTH };
 
+    // What the largest digit is.
     ghost tops: { (1 ≤ 2 ^ WIDTH - 1) × (2 ^ WIDTH - 1 ≤ 15) };
 
+    // The checksum fits its digits, which take less than 16 bits.
     ghost room: { 128 / WIDTH * 2 ^ WIDTH < 2 ^ (WIDTH * ENDS) };
 
     ghost short: { WIDTH * ENDS < 16 };
 
+    // All digits fit the levels inside a leaf.
     ghost leaves: { (1 ≤ 128 / WIDTH + ENDS) × (128 / WIDTH + ENDS ≤ 2 ^ LEVELS) };
 
     ghost level_range: { (1 ≤ LEVELS) × (LEVELS ≤ 8) };
 }
 
+// 64 digits of a stamp, and 5 of its checksum.
 pub struct TwoBits;
 
 impl DigitWidth for TwoBits {
@@ -74,6 +79,7 @@ impl DigitWidth for TwoBits {
     ghost level_range = { (lit≤ tt, lit≤ tt) };
 }
 
+// 32 digits of a stamp, and 3 of its checksum.
 pub struct FourBits;
 
 impl DigitWidth for FourBits {

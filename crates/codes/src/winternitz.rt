@@ -38,7 +38,7 @@ fn digit_at(stamp: &[u8; 16], width: usize, ends: usize, place: usize) -> u8
 
 // Winternitz: the stamp in digits of a width, and then its checksum.
 pub struct Winternitz<W> {
-    width: PhantomData<W>,
+    pub width: PhantomData<W>,
 }
 
 // 64 digits of the stamp, 5 of its checksum.

@@ -1,4 +1,4 @@
-// What a tree is grown from.
+// What a tree is grown from, and the tree.
 ghost use Rattle.std.specs.Prelude.{◌≡◌, ◌≤◌, length};
 
 use std::marker::PhantomData;
@@ -35,5 +35,5 @@ pub struct Tree<'a, H, C> {
     pub origin: &'a Origin,
     pub hash: PhantomData<H>,
     pub code: PhantomData<C>,
-    ghost tall: { origin.now.height ≤ 8 },
+    pub ghost tall: { origin.now.height ≤ 8 },
 }

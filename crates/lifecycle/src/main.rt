@@ -1,7 +1,6 @@
 // lifecycle: the life of a key, told step by step.
 #![tactic(auto)]
 
-use anyhow::anyhow;
 use codes::Winternitz4;
 use hashes::Practice;
 use signer::{Holder, Maker, Plan, Signer};
@@ -66,9 +65,7 @@ fn release(
 }
 
 fn check(rt: &HostRuntime, record: &[u8], stamp: &[u8; 16], release: &[u8]) -> anyhow::Result<()> {
-    let Ok(opened) = open::<Practice, Winternitz4>(record) else {
-        return Err(anyhow!("the key record is refused"));
-    };
+    let opened = open::<Practice, Winternitz4>(record)?;
     match verify::<Practice, Winternitz4>(&opened, stamp, release) {
         Ok(leaf) => println!(rt; "  The verifier opens the box: leaf {leaf}.")?,
         Err(refusal) => println!(rt; "  The verifier refuses with {refusal}.")?,
@@ -92,9 +89,7 @@ fn main(rt: HostRuntime) -> anyhow::Result<()> {
     if let Err(refusal) = Plan::new(9) {
         println!(rt; "A plan of height 9 is refused with {refusal}.")?;
     }
-    let Ok(plan) = Plan::new(2) else {
-        return Err(anyhow!("a plan of height 2 is refused"));
-    };
+    let plan = Plan::new(2)?;
     let maker = begin(&rt, plan, &mut work)?;
     let mut key = maker.finish(&mut work);
     println!(rt; "The leaves that lacked are grown, and the key is in service.")?;

@@ -1,5 +1,5 @@
 // A hash and a code, and work that is done with any of them.
-ghost use Rattle.std.specs.Prelude.{◌≡◌, ⊤};
+ghost use Rattle.std.specs.Prelude.{◌≡◌};
 ghost use Rattle.schemes.specs.Names.{hash_named, code_named, scheme_numbered};
 ghost use Rattle.tree.specs.Meaning.{Hash, Code, hash_of, code_of};
 
@@ -16,7 +16,7 @@ pub trait Task {
 
     // Relates the task before the work, the hash and the code, the answer, and the task after the work. What the work writes
     // through a reference of the task is said by `Wrote`.
-    ghost gives: { Self → Hash → Code → Self.Output → Self → Type 0 } = { λ _ _ _ _ _. ⊤ };
+    ghost gives: { Self → Hash → Code → Self.Output → Self → Type 0 };
 
     fn run<H: TreeHash, C: Code>(&mut self) -> Self::Output
         ensures { gives self.old (hash_of H.ChainHash H.TreeHash.own) (code_of C.Code) result self.new };

@@ -1,8 +1,8 @@
 -- Reading words, hex digits and numbers place by place.
 -- Assumes nothing.
-use Rattle.std.proofs.Common.{◌≡◌, ℕ, suc, ◌+◌, ◌-◌, ◌*◌, ◌/◌, ◌<◌, ◌≤◌, Bool, true, false, not, cond, ◌==◌, nat_lt, ◌&&◌, eqb, leb, List, [], ◌∷◌, ◌++◌, length, get_or, set, take, drop, position, IfSome, Some, None, Option, MatchOption, sym, refl, ap, ◌∙◌, append_assoc, append-nil, length-append, arith}
-use Rattle.std.proofs.lemmas.List.{drop_more, take_more_set, drop_all, take_all}
-use Rattle.std.proofs.lemmas.Bool.{cond-true, cond-false, eq-eqb, ne_eqb, lt-leb, ltb-true, ltb-false}
+use Rattle.std.proofs.Common.{◌≡◌, ℕ, suc, ◌+◌, ◌-◌, ◌*◌, ◌/◌, ◌%◌, ◌<◌, ◌≤◌, Bool, true, false, not, cond, ◌==◌, nat_lt, ◌&&◌, eqb, leb, List, [], ◌∷◌, ◌++◌, length, get_or, set, take, drop, position, IfSome, Some, None, Option, MatchOption, sym, refl, ap, ◌∙◌, append_assoc, append-nil, length-append, arith}
+use Rattle.std.proofs.lemmas.List.{drop_more, take_more, take_more_set, drop_all, take_all}
+use Rattle.std.proofs.lemmas.Bool.{cond-true, cond-false, eq-eqb, ne_eqb, lt-leb, le-leb, and_from, ltb-true, ltb-false}
 use Rattle.std.specs.Bool.{then_some}
 use Rattle.std.specs.List.{position_or_len}
 use Rattle.std.specs.Option.{option_map}
@@ -116,6 +116,13 @@ half-of (Some bs) n e = cond-true (eqb (length bs) (n / 2)) (Some bs) None (eq-e
 half-of None n e = refl
 
 -- a text of n digits names no other number of bytes than half of n
+sized-odd : (o : Option (List ℕ)) (n : ℕ) → IfSome o (λ bs. n ≡ 2 * length bs) → (n % 2 ≡ 0 → ⊥) → o ≡ None
+sized-odd (Some bs) n e odd = absurd (odd (omega arith))
+sized-odd None n e odd = refl
+
+pub hex-odd : (xs : List ℕ) → (length xs % 2 ≡ 0 → ⊥) → hex_bytes xs ≡ None
+hex-odd xs odd = sized-odd (hex_bytes xs) (length xs) (hex-sized xs) odd
+
 pub hex-half : (xs : List ℕ) → hex_of (length xs / 2) xs ≡ hex_bytes xs
 hex-half xs = half-of (hex_bytes xs) (length xs) (hex-sized xs)
 
@@ -138,3 +145,25 @@ number-past most v xs i lt over =
     sym
     (ap (λ t. at_most most (number_from v t)) (drop_more xs i 0 lt)
     ∙ none-either most (leb 48 c && leb c 57) (number_from (10 * v + (c - 48)) rest) (number-over most (10 * v + (c - 48)) rest over))
+
+-- place by place
+
+pub word_more : (xs : List ℕ) (i : ℕ) → i < length xs → (get_or xs i 0 ≡ 32 → ⊥) → word_of xs ≡ take i xs ++ word_of (drop i xs) → word_of xs ≡ take (i + 1) xs ++ word_of (drop (i + 1) xs)
+word_more xs i lt ne e =
+    let c = get_or xs i 0 in
+    let w = word_of (drop (i + 1) xs) in
+    let p : word_of (drop i xs) ≡ c ∷ w = ap word_of (drop_more xs i 0 lt) ∙ cond-false (eqb c 32) [] (c ∷ w) (ne_eqb c 32 ne) in
+    e ∙ (ap (λ t. take i xs ++ t) p ∙ (sym (append_assoc (take i xs) (c ∷ []) w) ∙ ap (λ t. t ++ w) (sym (take_more xs i 0 lt))))
+
+pub after_more : (xs : List ℕ) (i : ℕ) → i < length xs → (get_or xs i 0 ≡ 32 → ⊥) → after_word xs ≡ after_word (drop i xs) → after_word xs ≡ after_word (drop (i + 1) xs)
+after_more xs i lt ne e =
+    let c = get_or xs i 0 in
+    let d = drop (i + 1) xs in
+    e ∙ (ap after_word (drop_more xs i 0 lt) ∙ cond-false (eqb c 32) (Some d) (after_word d) (ne_eqb c 32 ne))
+
+pub number_more : (most v : ℕ) (xs : List ℕ) (i : ℕ) → i < length xs → 48 ≤ get_or xs i 0 → get_or xs i 0 ≤ 57 → at_most most (number_from v (drop i xs)) ≡ at_most most (number_from (10 * v + (get_or xs i 0 - 48)) (drop (i + 1) xs))
+number_more most v xs i lt low high =
+    let c = get_or xs i 0 in
+    let d = drop (i + 1) xs in
+    ap (λ t. at_most most (number_from v t)) (drop_more xs i 0 lt)
+    ∙ ap (at_most most) (cond-true (leb 48 c && leb c 57) (number_from (10 * v + (c - 48)) d) None (and_from (leb 48 c) (leb c 57) (le-leb 48 c low) (le-leb c 57 high)))

@@ -42,6 +42,9 @@ fn fill(mut text: &[u8], out: &mut [u8]) -> Option<()>
 pub(crate) fn bytes(heap: Global, text: &[u8]) -> Result<Option<Vec<u8>>, AllocError>
     ensures { IfOk result (λ o. option_map vec_items o ≡ hex_bytes text.now) }
 {
+    if text.len() % 2 != 0 {
+        return Ok(None);
+    }
     let mut out = vec![in heap; 0; text.len() / 2]?;
     match fill(text, out.as_mut_slice()) {
         Some(()) => Ok(Some(out)),

@@ -17,9 +17,7 @@ const PAIR: [u8; 4] = *b"PAIR";
 fn cut(digest: &[u8; 32]) -> [u8; 16]
     ensures { result ≡ take 16 digest.now }
 {
-    let mut out = [0; 16];
-    out.copy_from_slice(&digest[0..16]);
-    out
+    *digest.first_chunk().unwrap()
 }
 
 // The tree hash number 1.

@@ -16,7 +16,7 @@ impl Plan {
     pub fn new(height: u8) -> Result<Plan, Refusal>
         ensures { seen (λ p. p.height) result ≡ plan_rule height }
     {
-        if height < 1 || height > 8 {
+        if !(1..=8).contains(&height) {
             return Err(Refusal::Plan);
         }
         Ok(Plan { height })

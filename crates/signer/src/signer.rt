@@ -25,7 +25,7 @@ pub struct Signer<H: TreeHash, C: Code> {
     pub(crate) code: PhantomData<C>,
     ghost tall: { (1 ≤ origin.height) × (origin.height ≤ 8) },
     ghost within: { next ≤ 2 ^ origin.height },
-    ghost rooted: { root ≡ node_at (hash_of H.ChainHash H.TreeHash) (code_of C.Code) origin 0 0 },
+    pub ghost rooted: { root ≡ node_at (hash_of H.ChainHash H.TreeHash) (code_of C.Code) origin 0 0 },
     ghost sized: { (length origin.hash_key ≡ 16) × (length origin.masks ≡ 512) × (length root ≡ 16) },
     ghost fresh: { (i : ℕ) → next ≤ i → empty_row (slice_index_or ledger.rows i None) ≡ true },
     ghost seeded: { length origin.seed ≡ 16 },

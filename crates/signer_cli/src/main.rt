@@ -1,6 +1,8 @@
 // signer_cli: reads calls of a signer from standard input, a line for each, and prints a line of answer for each.
 #![tactic(auto)]
 
+ghost use Rattle.std.specs.Prelude.{⊤};
+
 use codes::Code;
 use hashes::TreeHash;
 use schemes::Task;
@@ -79,6 +81,9 @@ struct Serve<'a, 'i> {
 
 impl Task for Serve<'_, '_> {
     type Output = anyhow::Result<Next>;
+
+    // What is read and printed is not said.
+    ghost gives = { λ _ _ _ _ _. ⊤ };
 
     fn run<H: TreeHash, C: Code>(&mut self) -> anyhow::Result<Next> {
         let mut session = Session::<H, C>::begin(self.plan, self.begin);

@@ -37,13 +37,12 @@ pub fn number(n: u128) -> [u8; 16]
 }
 
 // String number `i` of the row of strings in `bytes`.
+#[tactic(auto, using(crate::proofs::Laws::chunk_at))]
 pub fn string_at(bytes: &[u8], i: usize) -> [u8; 16]
     requires { 16 * i + 16 ≤ length bytes.now }
     ensures { result ≡ string_at bytes.now i }
 {
-    let mut out = [0; 16];
-    out.copy_from_slice(&bytes[16 * i..16 * i + 16]);
-    out
+    bytes.as_chunks().0[i]
 }
 
 // Writes `string` over string number `i` of the row in `bytes`; the others stay.

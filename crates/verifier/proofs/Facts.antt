@@ -1,9 +1,10 @@
 -- What the rules of the verifier come to: an answer that is no refusal, and what then holds of the bytes.
 -- Assumes nothing.
-use Rattle.std.proofs.Common.{◌≡◌, ℕ, ◌^◌, ◌<◌, ◌≤◌, Bool, true, false, List, length, get_or, drop, Ok, Err, Result, refl, ap, arith, w8, Fits}
+use Rattle.std.proofs.Common.{◌≡◌, ℕ, ◌+◌, ◌^◌, ◌<◌, ◌≤◌, Bool, true, false, List, length, get_or, drop, Ok, Err, Result, refl, ap, ◌∙◌, arith, w8, Fits}
 use Rattle.std.proofs.ByRecursion.{All-from_get_or}
 use Rattle.strings.specs.Strings.{Bytes}
 use Rattle.std.proofs.lemmas.Bool.{cond-false}
+use Rattle.std.proofs.lemmas.List.{get_or-drop}
 use Rattle.std.proofs.lemmas.Bool.Decides.{nat_tests}
 use Rattle.tree.specs.Meaning.{Code}
 use Rattle.verifier.specs.Keys.{Key, Shown}
@@ -77,6 +78,12 @@ read-from hash code key bytes h = grind (arith, nat_tests)
 
 pub read-to : (hash : ℕ) (code : Code) (key : Key) (bytes : List ℕ) (shown : Shown) → read_rule hash code key bytes ≡ Ok shown → Releases hash code key bytes × (shown ≡ record { leaf = leaf_of bytes; row = row_of bytes })
 read-to hash code key bytes shown p = grind (arith, nat_tests)
+
+-- a byte of the body of a record
+pub body_at : (kind : ℕ) (bytes body : List ℕ) (k : ℕ) → Ok body ≡ header_rule kind bytes → get_or body k 0 ≡ get_or bytes (6 + k) 0
+body_at kind bytes body k p =
+    let is : body ≡ drop 6 bytes = grind (arith, nat_tests) in
+    ap (λ l. get_or l k 0) is ∙ get_or-drop 6 bytes k 0
 
 -- what is read of a release record by its body, under a key that suits
 pub read-parts : (hash : ℕ) (code : Code) (key : Key) (bytes body : List ℕ) → Ok body ≡ header_rule 2 bytes → true ≡ suited hash code.number code.levels key → (body ≡ drop 6 bytes) × (parts_rule code.count key.height bytes ≡ read_rule hash code key bytes)

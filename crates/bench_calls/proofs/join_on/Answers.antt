@@ -8,4 +8,4 @@ loop-init g c = sym (raise-none _ _)
 pub loop-preserved : goal.loop-preserved
 loop-preserved g c =
     let join : List ℕ → List ℕ = λ s. g.H.TreeHash.pairs c.args.key.now s c.args.right.now in
-    c.pair-joined.ensures ∙ ap join c.loop.invariant ∙ raise-more join c.loop.counter c.args.left.now
+    c.pair-last.ensures ∙ ap join c.loop.invariant ∙ raise-more join c.loop.counter c.args.left.now

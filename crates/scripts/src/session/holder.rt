@@ -10,7 +10,7 @@ use hashes::TreeHash;
 use signer::Holder;
 use std::alloc::{AllocError, Global};
 
-// The key record that lies at the start of an output.
+// Answers with the key record, or with a refusal.
 pub(crate) fn key<H: TreeHash, C: Code, K: Holder<H, C>>(
     heap: Global,
     holder: &K,
@@ -28,6 +28,7 @@ pub(crate) fn key<H: TreeHash, C: Code, K: Holder<H, C>>(
     }
 }
 
+// Answers with a verdict and its report, or with a refusal.
 pub(crate) fn trace<H: TreeHash, C: Code, K: Holder<H, C>>(
     holder: &K,
     stamp: &[u8; 16],

@@ -1,8 +1,11 @@
-use Rattle.std.proofs.Common.{◌≡◌, ◌/◌, length, drop, Some, ap, ◌∙◌, arith}
+use Rattle.std.proofs.Common.{◌≡◌, ◌/◌, length, drop, Some, sym, ap, ◌∙◌, arith}
 use Rattle.std.proofs.lemmas.List.{take_at}
 use Rattle.scripts.specs.Hex.{hex_of}
-use Rattle.scripts.proofs.Texts.{hex-half}
+use Rattle.scripts.proofs.Texts.{hex-odd, hex-half}
 use Rattle.scripts.proofs.hex.bytes.Goals as goal
+
+pub returns-then-text-ne0 : goal.returns-then-text-ne0
+returns-then-text-ne0 c = sym (hex-odd c.args.text.now c.if-text-ne0.true)
 
 pub returns-in-Some : goal.returns-in-Some
 returns-in-Some c =
