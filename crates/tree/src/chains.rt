@@ -30,19 +30,19 @@ pub fn climb_to_top<H: ChainHash, C: Code>(
     climb_chain::<H>(key, string, C::TOP - C::digit(stamp, place))
 }
 
-// The one-time strings of a leaf, from the strings of its chains at the heights of the stamp's digits.
+// Fills a row with the one-time strings of a leaf, from the strings of its chains at the heights of the stamp's digits.
 pub fn one_time_strings<H: ChainHash, C: Code>(
     key: &[u8; 16],
     stamp: &[u8; 16],
     shown: &[u8],
-) -> [u8; 4096]
+    row: &mut [u8; 4096],
+)
     requires { 16 * C.Code.COUNT ≤ length shown.now }
-    ensures { (k : ℕ) → k < 256 → string_at result k ≡ one_time (H.ChainHash.steps key.now) C.Code.COUNT C.Code.TOP (C.Code.digits stamp.now) (string_at shown.now) k }
+    ensures { (k : ℕ) → k < 256 → string_at row.new k ≡ one_time (H.ChainHash.steps key.now) C.Code.COUNT C.Code.TOP (C.Code.digits stamp.now) (string_at shown.now) k }
 {
-    let mut row = [0; 4096];
+    *row = [0; 4096];
     for k in 0..C::COUNT {
         let top = climb_to_top::<H, C>(key, stamp, k, &string_at(shown, k));
-        put_string(&mut row, k, &top);
+        put_string(row, k, &top);
     }
-    row
 }

@@ -22,7 +22,8 @@ impl<H: TreeHash> Joiner<'_, H> {
         requires within { 16 * (C.Code.COUNT + height) ≤ length row.now }
         ensures { result ≡ rebuilt (hash_of H.ChainHash H.TreeHash.own) (code_of C.Code) self.now.key.now self.now.masks.now height leaf stamp.now row.now }
     {
-        let mut strings = one_time_strings::<H, C>(self.key, stamp, row);
+        let mut strings = [0; 4096];
+        one_time_strings::<H, C>(self.key, stamp, row, &mut strings);
         let start = self.fold(height, C::LEVELS as usize, &mut strings);
         self.climb_path(height, leaf, &start, row, C::COUNT)
     }
