@@ -19,7 +19,7 @@ use Rattle.verifier.specs.Records.{release_bytes, row_of}
 use Rattle.verifier.specs.Rules.{verify_rule}
 use Rattle.verifier.proofs.Facts.{after-at, ok_same}
 use Rattle.histories.specs.Histories.{State, IsSigner, History, Lived, Issued}
-use Rattle.histories.specs.Promise.{Revealed, SaysOurs, Breaks, pair_break, step_break, Promise}
+use Rattle.histories.specs.Promise.{Revealed, SaysOurs, ShowsFirst, Breaks, pair_break, step_break, Promise}
 use Rattle.histories.specs.Promise as promise
 use Rattle.histories.specs.Rules.{Accepts, own_key, traced_by, report_after, trace_answer, trace_report}
 use Rattle.histories.specs.States.{Signing}
@@ -106,6 +106,11 @@ module _ (hash : Hash) (code : Code) (laws : Laws hash code) (o : Origin) (w : H
         promise.unrevealed _ _ k (code.digit stamp k) refl h.chain refl (hidden-report hash code t law tall k) (shows ∙ sym (hidden-report hash code t law tall k)) (unseen i k (code.digit stamp k) (get_or s.rows i None) refl h.below)
     found-breaks g never (ours nodes chains hidden) = absurd (never (was-issued g (ours nodes chains hidden)))
 
+    shows-first : Accepts hash code s stamp bytes i → (report : List ℕ) → ShowsFirst hash code s stamp bytes i (trace_answer hash code s stamp bytes) (trace_report hash code s stamp bytes report)
+    shows-first a report =
+        let verified = (given hash code laws o w s x i stamp bytes all a).verified in
+        (found hash code t, found_first hash code t, answers verified, reports verified report)
+
     breaks : Accepts hash code s stamp bytes i → (Issued w i bytes stamp → ⊥) → (report : List ℕ) → Breaks hash code w s stamp bytes i (trace_answer hash code s stamp bytes) (trace_report hash code s stamp bytes report)
     breaks a never report =
         let g = given hash code laws o w s x i stamp bytes all a in
@@ -120,5 +125,5 @@ promised {hash} {code} laws o w x s lived holds stamp bytes report str all =
       accepted = λ i issued m. accepted hash code laws o w s y i issued m;
       ours = λ i. says-issued hash code laws o w s y stamp bytes str all i;
       issued = λ i. issued-ours hash code laws o w s y stamp bytes str all i;
-      broken = λ i a never. breaks hash code laws o w s y stamp bytes str all i a (never i) report;
+      broken = λ i a never. (shows-first hash code laws o w s y stamp bytes str all i a report, breaks hash code laws o w s y stamp bytes str all i a (never i) report);
     }

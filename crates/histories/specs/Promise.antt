@@ -1,6 +1,8 @@
 -- What is promised of every history that leads to a signer, in service or retired, that traces a record.
 -- Assumes nothing.
 use Rattle.std.specs.Prelude.{◌≡◌, ℕ, ◌<◌, ◌≤◌, ◌⊎◌, List, ◌∷◌, ◌++◌, take, drop, Ok, Result, ◌≢◌}
+use Rattle.compare.specs.Found.{Found, verdict_numbers, verdict_report}
+use Rattle.compare.specs.declared.verdict.Verdict.{Verdict}
 use Rattle.growth.specs.Grown.{chain_string}
 use Rattle.growth.specs.declared.origin.Origin.{Origin}
 use Rattle.strings.specs.Strings.{string_at}
@@ -8,7 +10,7 @@ use Rattle.tree.specs.Meaning.{Hash, Code}
 use Rattle.verifier.specs.Records.{row_of}
 use Rattle.verifier.specs.declared.refusal.Refusal.{Refusal}
 use Rattle.histories.specs.Histories.{State, IsSigner, History, sign, Lived, Issued}
-use Rattle.histories.specs.Rules.{Accepts}
+use Rattle.histories.specs.Rules.{Accepts, traced_by}
 use Rattle.histories.specs.States.{Signing}
 
 -- no leaf number is issued twice: what a sign call answered, no call before it had answered
@@ -34,6 +36,11 @@ pub data Breaks (hash : Hash) (code : Code) (w : History) (s : Signing) (stamp b
   step_break : (r : Result (ℕ × ℕ × ℕ) Refusal) (report : List ℕ) (k e : ℕ) → r ≡ Ok (2, k, e) → (string_at report 0 ≢ string_at report 1) → hash.step s.origin.hash_key (string_at report 0) ≡ hash.step s.origin.hash_key (string_at report 1) → Breaks hash code w s stamp bytes i r report
   unrevealed : (r : Result (ℕ × ℕ × ℕ) Refusal) (report : List ℕ) (k e : ℕ) → r ≡ Ok (3, k, e) → k < code.count → e ≡ code.digit stamp k → string_at report 0 ≡ chain_string hash s.origin i k e → string_at (row_of bytes) k ≡ string_at report 0 → (Revealed code w i k e → ⊥) → Breaks hash code w s stamp bytes i r report
 
+-- the answer to a record with leaf number i and the report are the numbers and the report of what is to be found first
+abbrev pub ShowsFirst : Hash → Code → Signing → List ℕ → List ℕ → ℕ → Result (ℕ × ℕ × ℕ) Refusal → List ℕ → Type 0
+ShowsFirst hash code s stamp bytes i r report =
+    (v : Verdict) × Found hash code (traced_by s stamp i bytes) v × (r ≡ Ok (verdict_numbers i v)) × (report ≡ verdict_report v)
+
 -- of a history w that leads to the signer s, which answers r to a stamp and a record and leaves this report
 pub record Promise (hash : Hash) (code : Code) (w : History) (s : Signing) (stamp bytes : List ℕ) (r : Result (ℕ × ℕ × ℕ) Refusal) (report : List ℕ) : Type 0 where
   pub once : Once w
@@ -42,8 +49,8 @@ pub record Promise (hash : Hash) (code : Code) (w : History) (s : Signing) (stam
   -- of a record and a stamp that verify accepts, trace says "ours" exactly when the history issued this record for this stamp
   pub ours : (i : ℕ) → Accepts hash code s stamp bytes i → SaysOurs r → Issued w i bytes stamp
   pub issued : (i : ℕ) → Issued w i bytes stamp → SaysOurs r
-  -- otherwise it shows a break
-  pub broken : (i : ℕ) → Accepts hash code s stamp bytes i → ((j : ℕ) → Issued w j bytes stamp → ⊥) → Breaks hash code w s stamp bytes i r report
+  -- otherwise it shows a break: what is to be found first, and what that means
+  pub broken : (i : ℕ) → Accepts hash code s stamp bytes i → ((j : ℕ) → Issued w j bytes stamp → ⊥) → ShowsFirst hash code s stamp bytes i r report × Breaks hash code w s stamp bytes i r report
 
 -- the promise, for every history that leads to this signer, in service or retired
 abbrev pub Promised : Hash → Code → Signing → List ℕ → List ℕ → Result (ℕ × ℕ × ℕ) Refusal → List ℕ → Type 0
