@@ -1,2 +1,3 @@
+pub mod Constant
 pub mod Examples
 pub mod Setting

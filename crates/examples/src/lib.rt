@@ -1,13 +1,19 @@
 // Worked examples of the scheme.
 #![tactic(auto)]
 
-ghost use Rattle.std.specs.Prelude.{◌≡◌, length};
+ghost use Rattle.std.specs.Prelude.{◌≡◌, ℕ, length};
+ghost use Rattle.examples.specs.Constant.{Apart, constant};
 ghost use Rattle.examples.specs.Examples.{examples, Worked};
 
-// How many examples there are, all of which hold.
+mod constant;
+
+pub use constant::ConstantHash;
+
+// How many examples there are, all of which hold; and no constant code keeps the law of codes.
 pub fn worked_examples() -> usize
     ensures count { result ≡ length examples }
     ensures worked { Worked }
+    ensures lawless { (d : ℕ) → Apart (constant d) → ⊥ }
 {
     29
 }

@@ -1,17 +1,29 @@
 -- All examples hold, group by group.
 -- Assumes nothing.
-use Rattle.std.proofs.Common.{◌++◌, refl}
+use Rattle.std.proofs.Common.{◌≡◌, ℕ, ◌++◌, List, replicate, get_or, refl, ap, arith, rules}
 use Rattle.std.proofs.ByRecursion.{All-append}
 use Rattle.examples.specs.Examples.{Right, hashing, coding, measuring, skipping, tracing, examples}
+use Rattle.strings.specs.Strings.{Str, zero_string}
+use Rattle.examples.specs.Constant.{Apart, constant}
 use Rattle.examples.proofs.Answered.{hashing-right, coding-right, measuring-right, skipping-right}
 use Rattle.examples.proofs.Traced.{tracing-right}
 use Rattle.examples.proofs.worked_examples.Goals as goal
+
+-- of two stamps, neither has a smaller digit than the other
+lawless : (d : ℕ) → Apart (constant d) → ⊥
+lawless d apart =
+    let ones : List ℕ = replicate 16 1 in
+    let str : Str zero_string = search rules in
+    let str' : Str ones = search rules in
+    let found = apart zero_string ones str str' (λ e. let first : ◌≡◌ {A = ℕ} 0 1 = ap (λ s. get_or s 0 0) e in absurd (omega arith)) in
+    absurd (omega (arith, found.1))
 
 pub returns : goal.returns
 unfolding examples
 returns c =
     record {
       count = refl;
+      lawless = lawless;
       worked =
           All-append Right hashing (coding ++ (measuring ++ (skipping ++ tracing))) hashing-right
           (All-append Right coding (measuring ++ (skipping ++ tracing)) coding-right

@@ -1,0 +1,36 @@
+// The worst hash that there can be.
+ghost use Rattle.examples.specs.Constant.{constant-str};
+ghost use Rattle.std.proofs.Common.{rules};
+ghost use Rattle.strings.specs.Strings.{zero_string};
+
+use hashes::{ChainHash, TreeHash};
+
+// A hash that gives the zero string whatever it is given. It keeps the laws of hashes, so all that is promised over every hash
+// holds over it: of a record that was not issued, trace shows two inputs that collide.
+pub struct ConstantHash;
+
+impl ChainHash for ConstantHash {
+    const NUMBER: u8 = 0;
+
+    ghost NUMBER = { 0 };
+
+    ghost steps = { λ k s. zero_string };
+
+    ghost small = { Prim.search rules };
+
+    ghost gives = { λ k s _ _. constant-str };
+
+    fn step(_key: &[u8; 16], _string: &[u8; 16]) -> [u8; 16] {
+        [0; 16]
+    }
+}
+
+impl TreeHash for ConstantHash {
+    ghost pairs = { λ k l r. zero_string };
+
+    ghost joins = { λ k l r _ _ _. constant-str };
+
+    fn pair(key: &[u8; 16], left: &[u8; 16], _right: &[u8; 16]) -> [u8; 16] {
+        Self::step(key, left)
+    }
+}
