@@ -5,7 +5,7 @@
 use orders::check;
 use std::fs;
 
-const CASES: [&str; 19] = [
+const CASES: [&str; 20] = [
     "box_1_1",
     "box_1_2",
     "box_1_3",
@@ -25,6 +25,7 @@ const CASES: [&str; 19] = [
     "key_refused_7_before_8",
     "key_refused_6_before_8",
     "orders_refused",
+    "zero_key",
 ];
 
 fn main(rt: HostRuntime) -> anyhow::Result<()> {
