@@ -17,7 +17,7 @@ fn round_constant(n: usize) -> [u8; 4]
 }
 
 // The key of round n + 1, from that of round n.
-pub fn next_round_key(round_key: &[u8; 16], n: usize) -> [u8; 16]
+pub(crate) fn next_round_key(round_key: &[u8; 16], n: usize) -> [u8; 16]
     requires { n < 10 }
     ensures { result ≡ next_key round_key.now (n + 1) }
 {

@@ -65,14 +65,14 @@ fn mix_columns(state: &[u8; 16]) -> [u8; 16]
 }
 
 // Bytes may be substituted before or after the rows are shifted.
-pub fn full_round(state: &[u8; 16], round_key: &[u8; 16]) -> [u8; 16]
+pub(crate) fn full_round(state: &[u8; 16], round_key: &[u8; 16]) -> [u8; 16]
     ensures { result ≡ full_round state.now round_key.now }
 {
     mask(&mix_columns(&shift_rows(state)), round_key)
 }
 
 // The last round mixes no columns.
-pub fn final_round(state: &[u8; 16], round_key: &[u8; 16]) -> [u8; 16]
+pub(crate) fn final_round(state: &[u8; 16], round_key: &[u8; 16]) -> [u8; 16]
     ensures { result ≡ final_round state.now round_key.now }
 {
     mask(&shift_rows(&sub_bytes(state)), round_key)

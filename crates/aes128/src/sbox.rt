@@ -22,7 +22,7 @@ const SBOX: [u8; 256] = [
 ];
 
 // SubBytes at one byte. The place that is read depends on the byte, which may be secret.
-pub fn sub_byte(b: u8) -> u8
+pub(crate) fn sub_byte(b: u8) -> u8
     ensures { result ≡ sub b }
 {
     SBOX[b as usize]

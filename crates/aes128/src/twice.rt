@@ -22,7 +22,7 @@ const TWICE: [u8; 256] = [
 ];
 
 // x times the substituted byte. The place that is read depends on the byte, which may be secret.
-pub fn sub_twice(b: u8) -> u8
+pub(crate) fn sub_twice(b: u8) -> u8
     ensures { result ≡ times_x (sub b) }
 {
     TWICE[b as usize]

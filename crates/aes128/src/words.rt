@@ -7,7 +7,7 @@ ghost use Rattle.aes128.specs.Pieces.{columns};
 use crate::sbox::sub_byte;
 
 // The column c of a state or a round key.
-pub fn column_of(state: &[u8; 16], c: usize) -> [u8; 4]
+pub(crate) fn column_of(state: &[u8; 16], c: usize) -> [u8; 4]
     requires { c < 4 }
     ensures { result ≡ column state.now c }
 {
@@ -19,7 +19,7 @@ pub fn column_of(state: &[u8; 16], c: usize) -> [u8; 4]
     ]
 }
 
-pub fn from_columns(a: &[u8; 4], b: &[u8; 4], c: &[u8; 4], d: &[u8; 4]) -> [u8; 16]
+pub(crate) fn from_columns(a: &[u8; 4], b: &[u8; 4], c: &[u8; 4], d: &[u8; 4]) -> [u8; 16]
     ensures { result ≡ columns a.now b.now c.now d.now }
 {
     [
@@ -28,13 +28,13 @@ pub fn from_columns(a: &[u8; 4], b: &[u8; 4], c: &[u8; 4], d: &[u8; 4]) -> [u8; 
     ]
 }
 
-pub fn rot_word(w: &[u8; 4]) -> [u8; 4]
+pub(crate) fn rot_word(w: &[u8; 4]) -> [u8; 4]
     ensures { result ≡ rot_word w.now }
 {
     [w[1], w[2], w[3], w[0]]
 }
 
-pub fn sub_word(w: &[u8; 4]) -> [u8; 4]
+pub(crate) fn sub_word(w: &[u8; 4]) -> [u8; 4]
     ensures { result ≡ sub_word w.now }
 {
     [

@@ -69,7 +69,7 @@ fn added(s: State, t: State) -> State
     }
 }
 
-pub fn compress(s: State, block: &[u8; 64]) -> State
+pub(crate) fn compress(s: State, block: &[u8; 64]) -> State
     ensures { result ≡ spec.compress s block.now }
 {
     let schedule = message_schedule(block);

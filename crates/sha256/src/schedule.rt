@@ -27,7 +27,7 @@ fn next_word(w: &[u32; 64], t: usize) -> u32
         .wrapping_add(w[t - 16])
 }
 
-pub fn message_schedule(block: &[u8; 64]) -> [u32; 64]
+pub(crate) fn message_schedule(block: &[u8; 64]) -> [u32; 64]
     ensures { result ≡ schedule block.now }
 {
     let mut w = block_words(block);

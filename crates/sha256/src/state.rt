@@ -2,13 +2,13 @@
 
 // Eight words: the hash value between two blocks, or the working variables between two rounds.
 #[derive(Clone, Copy)]
-pub struct State {
-    pub a: u32,
-    pub b: u32,
-    pub c: u32,
-    pub d: u32,
-    pub e: u32,
-    pub f: u32,
-    pub g: u32,
-    pub h: u32,
+pub(crate) struct State {
+    pub(crate) a: u32,
+    pub(crate) b: u32,
+    pub(crate) c: u32,
+    pub(crate) d: u32,
+    pub(crate) e: u32,
+    pub(crate) f: u32,
+    pub(crate) g: u32,
+    pub(crate) h: u32,
 }

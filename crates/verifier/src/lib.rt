@@ -3,6 +3,7 @@
 
 mod header;
 mod key;
+mod lengths;
 mod opening;
 mod refusal;
 mod release;
@@ -10,6 +11,7 @@ mod verifying;
 
 pub use header::{RecordKind, body_of};
 pub use key::OpenedKey;
+pub use lengths::{key_length, release_length};
 pub use opening::{open, suits};
 pub use refusal::Refusal;
 pub use release::{Release, read_own, read_release};

@@ -5,6 +5,7 @@ ghost use Rattle.verifier.specs.Rules.{seen, open_rule, suited};
 ghost use Rattle.verifier.specs.Views.{key_of};
 
 use crate::header::body_of;
+use crate::lengths::key_length;
 use crate::{OpenedKey, RecordKind, Refusal};
 use codes::Code;
 use hashes::ChainHash;
@@ -22,7 +23,7 @@ pub fn open<H: ChainHash, C: Code>(bytes: &[u8]) -> Result<OpenedKey<'_>, Refusa
     if !(1..=8).contains(&height) || body[3] != 0 {
         return Err(Refusal::Height);
     }
-    if bytes.len() != 42 + 32 * (height as usize + C::LEVELS as usize) {
+    if bytes.len() != key_length::<C>(height) {
         return Err(Refusal::Layout);
     }
     Ok(OpenedKey { bytes, height })

@@ -6,6 +6,7 @@ ghost use Rattle.verifier.specs.Rules.{seen, suited, parts_rule, read_rule, own_
 ghost use Rattle.verifier.specs.Views.{key_of, shown_by};
 
 use crate::header::body_of;
+use crate::lengths::release_length;
 use crate::opening::suits;
 use crate::{OpenedKey, RecordKind, Refusal};
 use codes::Code;
@@ -27,7 +28,7 @@ fn parts_of<C: Code>(height: u8, body: &[u8]) -> Result<Release<'_>, Refusal>
     let [low, high, row @ ..] = body else {
         return Err(Refusal::Layout);
     };
-    if row.len() != 16 * (C::COUNT + height as usize) {
+    if 8 + row.len() != release_length::<C>(height) {
         return Err(Refusal::Layout);
     }
     let leaf = u16::from_le_bytes([*low, *high]);

@@ -9,8 +9,3 @@ loop-n-init c = sym (key_of_round-none c.args.key.now c.told-key)
 pub loop-n-preserved : goal.loop-n-preserved
 loop-n-preserved c =
     next-key_of_round c.args.key.now c.loop-n.round_key c.next_round_key-round_key.result c.loop-n.n c.loop-n.invariant c.next_round_key-round_key.ensures
-
-pub returns : goal.returns
-returns c =
-    let end : c.loop-n.n ≡ 10 = omega arith in
-    c.loop-n.invariant ∙ ap (key_of_round c.args.key.now) end

@@ -4,9 +4,6 @@ use Rattle.std.proofs.lemmas.Nat.{one_shl, and_mask}
 use Rattle.codes.specs.Laws.{in-stamp}
 use Rattle.codes.proofs.bits.read_bits.Goals as goal
 
-pub bounds-stamp-at : goal.bounds-stamp-at
-bounds-stamp-at c = (in-stamp c.args.width c.args.j c.requires.0 c.requires.1).0
-
 pub overflow_sub-result-2 : goal.overflow_sub-result-2
 overflow_sub-result-2 c = omega (arith, (in-stamp c.args.width c.args.j c.requires.0 c.requires.1).1)
 

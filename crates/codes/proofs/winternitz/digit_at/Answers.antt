@@ -18,15 +18,6 @@ returns-then-end-ends c =
 shift : (w n t : ℕ) → w * n < 16 → t < n → w * t < 16
 shift w n t h g = omega (arith, mul-le w t w n (omega arith) (omega arith))
 
-pub overflow_mul-result : goal.overflow_mul-result
-overflow_mul-result c = Fits-bits 4 tt (shift c.args.width c.args.ends _ c.requires.1 (omega arith))
-
-pub overflow_cast-result-2 : goal.overflow_cast-result-2
-overflow_cast-result-2 c = Fits-bits 4 tt (shift c.args.width c.args.ends _ c.requires.1 (omega arith))
-
-pub overflow_shr-result : goal.overflow_shr-result
-overflow_shr-result c = shift c.args.width c.args.ends _ c.requires.1 (omega arith)
-
 pub returns : goal.returns
 returns c =
     let w = c.args.width in

@@ -35,14 +35,3 @@ loop-e-preserved g c =
           ∙ sym (last_more at from (e - from))
           ∙ ap (last_from at from) more,
     )
-
-pub returns : goal.returns
-returns g c =
-    let step = g.H.ChainHash.steps c.args.key.now in
-    let end : c.loop-e.e - c.args.from ≡ c.args.to - c.args.from = omega (arith, c.requires, c.loop-e.auto.e-end) in
-    let inv = c.loop-e.invariant in
-    record {
-      ours = inv.0 ∙ ap (λ n. raise step n c.args.ours.now) end;
-      theirs = inv.1 ∙ ap (λ n. raise step n c.args.theirs.now) end;
-      find = inv.2 ∙ ap (last_from _ c.args.from) end;
-    }

@@ -80,17 +80,3 @@ loop-left-preserved g c =
           ∙ sym (first-front depth (left - 1) (levels - left))
           ∙ ap (first_from depth (left - 1)) rest,
     )
-
-pub returns : goal.returns
-returns g c =
-    let parent = join (g.H.TreeHash.pairs c.args.joiner.now.key.now) c.args.joiner.now.masks.now in
-    let none : c.loop-left.left ≡ 0 = omega (arith, c.loop-left-test.false) in
-    let low : c.args.height + c.loop-left.left ≡ c.args.height = omega arith in
-    let all : c.args.levels - c.loop-left.left ≡ c.args.levels = omega arith in
-    let depth : ℕ → Option Find = depth_search (g.H.TreeHash.pairs c.args.joiner.now.key.now) c.args.joiner.now.masks.now c.args.height c.args.leaf c.args.levels (string_at c.args.ours.now) (string_at c.args.theirs.now) in
-    let inv = c.loop-left.invariant in
-    record {
-      ours = c.string_at-our_node.ensures ∙ inv.1 0 (pow_pos c.loop-left.left) ∙ (λ i. node parent (string_at c.args.ours.now) (low i) (all i) 0);
-      theirs = c.string_at-their_node.ensures ∙ inv.2 0 (pow_pos c.loop-left.left) ∙ (λ i. node parent (string_at c.args.theirs.now) (low i) (all i) 0);
-      find = inv.3 ∙ (λ i. first_from depth (none i) (all i));
-    }

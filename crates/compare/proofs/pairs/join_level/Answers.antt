@@ -37,13 +37,3 @@ loop-p-preserved g c =
           ∙ ap at (sym (zero-add p))) i))
           ∙ sym (first_more at 0 p),
     )
-
-pub returns : goal.returns
-returns g c =
-    let all : c.loop-p.p ≡ c.args.n = omega (arith, c.loop-p-test.false, c.loop-p.auto.p-end) in
-    let inv = c.loop-p.invariant in
-    record {
-      ours = λ k h. inv.0.0 k (omega arith);
-      theirs = λ k h. inv.1.0 k (omega arith);
-      find = inv.2 ∙ ap (first_from _ 0) all;
-    }

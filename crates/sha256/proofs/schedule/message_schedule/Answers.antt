@@ -14,10 +14,3 @@ loop-t-preserved c = (
   length-set c.loop-t.w c.loop-t.t _ ∙ c.loop-t.invariant.0,
   extended-step c.loop-t.w (words c.args.block.now) c.loop-t.t c.next_word.result c.loop-t.auto.t (omega arith) c.loop-t.invariant.1 c.next_word.ensures,
 )
-
-pub returns : goal.returns
-returns c =
-    let t = c.loop-t.t in
-    let w = c.loop-t.w in
-    let last : t - 16 ≡ 48 = omega arith in
-    sym (take_all t w (omega arith)) ∙ c.loop-t.invariant.1 ∙ ap (λ n. extended n (words c.args.block.now)) last

@@ -10,7 +10,3 @@ pub loop-preserved : goal.loop-preserved
 loop-preserved g c =
     let step = g.H.ChainHash.steps c.args.key.now in
     c.step-at.ensures ∙ ap step c.loop.invariant ∙ raise-more step c.loop.counter c.args.string.now
-
-pub returns : goal.returns
-returns g c =
-    c.loop.invariant ∙ ap (λ e. raise (g.H.ChainHash.steps c.args.key.now) e c.args.string.now) (omega arith)

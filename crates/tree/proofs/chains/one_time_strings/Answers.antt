@@ -7,13 +7,3 @@ use Rattle.tree.proofs.chains.one_time_strings.Goals as goal
 
 pub loop-k-init : goal.loop-k-init
 loop-k-init g c = (refl, λ i h. string_at-zeros 4096 i (omega arith) ∙ sym (one-time-past (g.H.ChainHash.steps c.args.key.now) g.C.Code.TOP (g.C.Code.digits c.args.stamp.now) (string_at c.args.shown.now) 0 i (omega arith)))
-
-pub loop-k-preserved : goal.loop-k-preserved
-loop-k-preserved g c =
-    let step = g.H.ChainHash.steps c.args.key.now in (
-      omega arith,
-      one-time-more step g.C.Code.TOP (g.C.Code.digits c.args.stamp.now) (string_at c.args.shown.now) 256 c.loop-k.k c.loop-k.row c.put_string.new.bytes
-          c.loop-k.invariant.1
-          (c.put_string.ensures.here ∙ c.climb_to_top-top.ensures ∙ ap (raise step _) c.string_at.ensures)
-          c.put_string.ensures.others,
-    )

@@ -22,24 +22,6 @@ loop-e-init g c =
       sym (first-none (level_search hash code t) (t.origin.height - 0)),
     )
 
-pub climb_one-above-requires : goal.climb_one-above-requires
-climb_one-above-requires g c =
-    let hash = hash_of g.H.ChainHash g.H.TreeHash in
-    let code = code_of g.C.Code in
-    let t = traced_of c.args.self.now in
-    let h = t.origin.height in
-    let e = c.loop-e.e in
-    let more = c.loop-e-test.true in
-    let up : h - e ≡ h - e - 1 + 1 = omega arith in
-    let far : e ≡ h - (h - e - 1 + 1) = omega arith in
-    let inv = c.loop-e.invariant in
-    record {
-      under = omega arith;
-      place = inv.0 ∙ ap (λ n. t.leaf / 2 ^ n) far;
-      ours = inv.1 ∙ ap (λ a. our_node hash code t a c.loop-e.position) up;
-      theirs = inv.2 ∙ ap (λ a. their_node hash code t a c.loop-e.position) up;
-    }
-
 pub loop-e-preserved : goal.loop-e-preserved
 loop-e-preserved g c =
     let hash = hash_of g.H.ChainHash g.H.TreeHash in

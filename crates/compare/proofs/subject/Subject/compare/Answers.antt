@@ -18,21 +18,6 @@ use Rattle.compare.proofs.subject.Subject.compare.Goals as goal
 room : (g : given.Over) → 2 ^ g.C.Code.LEVELS ≤ 256
 room g = pow_mono {i = g.C.Code.LEVELS} {j = 8} g.met.C.Code.level_range.1
 
-pub fold_both-leaf_node-requires : goal.fold_both-leaf_node-requires
-fold_both-leaf_node-requires g c =
-    let is = c.LEVELS-levels.ensures in
-    let few = g.met.C.Code.level_range in
-    let size = ap (λ n. 2 ^ n) is in
-    let most = room g in
-    record {
-      masked = omega (arith, c.args.self.now.tree.tall, c.joiner-joiner.ensures.long);
-      few = omega arith;
-      tall = c.args.self.now.tree.tall;
-      there = c.args.self.now.there;
-      ours = omega arith;
-      theirs = omega arith;
-    }
-
 pub climb_to_root-root-requires : goal.climb_to_root-root-requires
 climb_to_root-root-requires g c =
     let hash = hash_of g.H.ChainHash g.H.TreeHash in

@@ -9,9 +9,6 @@ use Rattle.compare.specs.Views.{traced_of}
 use Rattle.compare.proofs.Firsts.{last-same}
 use Rattle.compare.proofs.subject.Subject.compare_chain.Goals as goal
 
-pub climb_both-find-requires : goal.climb_both-find-requires
-climb_both-find-requires g c = omega (arith, c.digit_of-digit.ensures.within, c.TOP.ensures)
-
 pub returns : goal.returns
 returns g c =
     let hash = hash_of g.H.ChainHash g.H.TreeHash in

@@ -51,18 +51,3 @@ loop-k-preserved g c =
           ∙ (λ i. option_or (inv.5 i) ((chain.hidden ∙ ap (hidden_find_at hash code t) here) i))
           ∙ sym (first_more (hidden_find_at hash code t) 0 k),
     )
-
-pub returns : goal.returns
-returns g c =
-    let hash = hash_of g.H.ChainHash g.H.TreeHash in
-    let code = code_of g.C.Code in
-    let t = traced_of c.args.self.now in
-    let step = hash.step t.origin.hash_key in
-    let all : c.loop-k.k ≡ code.count = omega (arith, c.loop-k-test.false, c.loop-k.auto.k-end, c.COUNT-k-end.ensures) in
-    let inv = c.loop-k.invariant in
-    record {
-      ours = λ k h. inv.2 k h ∙ ap (λ n. one_time step n code.top (λ j. 0) (secret hash t.origin t.leaf) k) all;
-      theirs = λ k h. inv.3 k h ∙ ap (λ n. one_time step n code.top (code.digit t.stamp) (string_at t.row) k) all;
-      broken = inv.4 ∙ ap (first_from (height_search hash code t) 0) all;
-      hidden = inv.5 ∙ ap (first_from (hidden_find_at hash code t) 0) all;
-    }

@@ -6,16 +6,6 @@ use Rattle.growth.specs.Grown.{parent_at}
 use Rattle.growth.proofs.Trees.{node-up}
 use Rattle.growth.proofs.origin.Tree.+grow_node.Goals as goal
 
-pub grow_node-left-requires : goal.grow_node-left-requires
-grow_node-left-requires g t c κs within =
-    let twice : 2 ^ (c.args.level + 1) ≡ 2 * 2 ^ c.args.level = ap (λ n. 2 ^ n) (add-one c.args.level) ∙ pow-succ' 2 c.args.level in
-    search rules
-
-pub grow_node-right-requires : goal.grow_node-right-requires
-grow_node-right-requires g t c κs within =
-    let twice : 2 ^ (c.args.level + 1) ≡ 2 * 2 ^ c.args.level = ap (λ n. 2 ^ n) (add-one c.args.level) ∙ pow-succ' 2 c.args.level in
-    search rules
-
 pub returns : goal.returns
 returns g t c =
     let hash = hash_of g.H.ChainHash g.H.TreeHash in

@@ -7,24 +7,6 @@ use Rattle.growth.specs.Grown.{parent_at, node_at, held_at, Holds, carry}
 use Rattle.growth.proofs.Trees.{node-up, held-odd, held-here, held_below, held-above, not_root, fills_up, carry-odd, carry-even}
 use Rattle.growth.proofs.origin.Tree.add_leaf.Goals as goal
 
-pub loop-position-init : goal.loop-position-init
-loop-position-init g c =
-    let hash = hash_of g.H.ChainHash g.H.TreeHash in
-    let o = c.args.self.now.origin.now in
-    let none : o.height - o.height ≡ 0 = omega arith in (
-      omega arith,
-      omega (arith, ap (λ j. (c.args.grown + 1) * 2 ^ j) none),
-      λ held. c.leaf_node-node.ensures,
-      c.told-nodes,
-      λ held a h lt. held a h ∙ cond-false _ _ _ (and_left _ _ (lt-leb a o.height lt)),
-      λ a h. refl,
-      ap (λ s. carry (parent_at hash o) o.height c.args.grown s c.args.nodes.now) c.leaf_node-node.ensures,
-    )
-
-pub overflow_sub-level : goal.overflow_sub-level
-overflow_sub-level g c =
-    not_root (hash_of g.H.ChainHash g.H.TreeHash) (code_of g.C.Code) c.args.self.now.origin.now c.args.grown c.loop-position.position c.loop-position.level c.loop-position.invariant.0 c.loop-position.invariant.1 c.requires c.loop-position-test.true
-
 pub loop-position-preserved : goal.loop-position-preserved
 loop-position-preserved g c =
     let hash = hash_of g.H.ChainHash g.H.TreeHash in

@@ -12,18 +12,6 @@ use Rattle.growth.proofs.origin.Tree.leaf_node.Goals as goal
 room : (g : given.Over) → 2 ^ g.C.Code.LEVELS ≤ 256
 room g = pow_mono {i = g.C.Code.LEVELS} {j = 8} g.met.C.Code.level_range.1
 
-pub fold-requires : goal.fold-requires
-fold-requires g c =
-    let is = c.LEVELS.ensures in
-    let long = c.joiner-joiner.ensures.long in
-    let tall = c.args.self.now.tall in
-    let few = g.met.C.Code.level_range in
-    record {
-      masked = omega arith;
-      within = omega (arith, room g, ap (λ n. 2 ^ n) is);
-      few = omega arith;
-    }
-
 pub returns : goal.returns
 returns g c =
     let hash = hash_of g.H.ChainHash g.H.TreeHash in

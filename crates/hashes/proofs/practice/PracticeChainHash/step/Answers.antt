@@ -4,13 +4,5 @@ use Rattle.strings.proofs.Laws.{edited-none, edited-more, edited-all}
 use Rattle.hashes.specs.Practice.{step_byte}
 use Rattle.hashes.proofs.practice.PracticeChainHash.step.Goals as goal
 
-pub loop-j-init : goal.loop-j-init
-loop-j-init c = edited-none _ c.args.string.now
-
-pub loop-j-preserved : goal.loop-j-preserved
-loop-j-preserved c =
-    let j = c.loop-j.j in
-    edited-more _ c.args.string.now c.loop-j.out j _ (omega arith) (ap (λ x. bit_xor (x / 2) (get_or c.args.key.now j 0)) (c.loop-j.invariant.2 j (omega arith))) c.loop-j.invariant
-
 pub returns : goal.returns
 returns c = edited-all (step_byte c.args.key.now c.args.string.now) c.args.string.now c.loop-j.out 16 _ c.told-string (omega arith) c.loop-j.invariant

@@ -27,12 +27,3 @@ loop-left-preserved g c =
           c.loop-left.invariant.1
           (λ k h. c.fold_level.ensures k (omega (arith, shift_one (left - 1) (omega arith)))),
     )
-
-pub returns : goal.returns
-returns g c =
-    let row = node (join (g.H.TreeHash.pairs c.args.self.now.key.now) c.args.self.now.masks.now) (string_at c.args.row.now) in
-    let none : c.loop-left.left ≡ 0 = omega arith in
-    c.string_at.ensures
-    ∙ c.loop-left.invariant.1 0 (pow_pos c.loop-left.left)
-    ∙ ap (λ n. row (c.args.level + n) (c.args.levels - n) 0) none
-    ∙ (λ i. row (let e : c.args.level + 0 ≡ c.args.level = omega arith in e i) (let e : c.args.levels - 0 ≡ c.args.levels = omega arith in e i) 0)

@@ -9,16 +9,6 @@ use Rattle.tree.proofs.nodes.Joiner.rebuild_root.Goals as goal
 room : (g : given.Over) → 2 ^ g.C.Code.LEVELS ≤ 256
 room g = pow_mono {i = g.C.Code.LEVELS} {j = 8} g.met.C.Code.level_range.1
 
-pub fold-start-requires : goal.fold-start-requires
-fold-start-requires g c =
-    let is = c.LEVELS.ensures in
-    let few = g.met.C.Code.level_range in
-    record {
-      masked = omega arith;
-      within = omega (arith, room g, ap (λ n. 2 ^ n) is);
-      few = omega arith;
-    }
-
 pub returns : goal.returns
 returns g c =
     let row = c.args.row.now in
