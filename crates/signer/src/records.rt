@@ -2,13 +2,27 @@
 ghost use Rattle.std.specs.Prelude.{◌≡◌, ◌+◌, ◌*◌, ◌^◌, ◌<◌, ◌≤◌, ◌++◌, length, take, drop};
 ghost use Rattle.growth.specs.Shown.{shown_row};
 ghost use Rattle.tree.specs.Meaning.{hash_of, code_of};
+ghost use Rattle.strings.specs.Strings.{little_endian};
+ghost use Rattle.verifier.specs.Kinds.{kind_number};
 ghost use Rattle.verifier.specs.Records.{framed, release_length, release_bytes};
 
 use codes::Code;
 use growth::Tree;
 use hashes::TreeHash;
 use strings::put;
-use verifier::RecordKind;
+use verifier::{RecordKind, release_length};
+
+// Writes what every record begins with: its length and its kind. The bytes after them stay.
+fn write_header(out: &mut [u8], kind: RecordKind, size: usize)
+    requires room { 6 ≤ length out.old }
+    requires short { size < 2 ^ 32 }
+    ensures front { take 6 out.new ≡ little_endian 4 size ++ little_endian 2 (kind_number kind) }
+    ensures back { drop 6 out.new ≡ drop 6 out.old }
+{
+    let [a, b, c, d] = (size as u32).to_le_bytes();
+    let [e, f] = kind.number().to_le_bytes();
+    put(out, 0, &[a, b, c, d, e, f]);
+}
 
 // Writes a key record at the start of the output; the bytes past it stay. `names` is the hash number, the code number,
 // the height and the spare byte.
@@ -24,8 +38,7 @@ pub(crate) fn write_key(
     ensures { out.new ≡ framed 1 (names.now ++ (hash_key.now ++ (masks.now ++ root.now))) ++ drop (42 + length masks.now) out.old }
 {
     let size = 42 + masks.len();
-    put(out, 0, &(size as u32).to_le_bytes());
-    put(out, 4, &RecordKind::Key.number().to_le_bytes());
+    write_header(out, RecordKind::Key, size);
     put(out, 6, names);
     put(out, 10, hash_key);
     put(out, 26, masks);
@@ -63,9 +76,8 @@ pub(crate) fn write_release<H: TreeHash, C: Code>(
     requires room { release_length C.Code.COUNT tree.now.origin.now.height ≤ length out.old }
     ensures { out.new ≡ release_bytes leaf (shown_row (hash_of H.ChainHash H.TreeHash.own) (code_of C.Code) tree.now.origin.now leaf stamp.now) ++ drop (release_length C.Code.COUNT tree.now.origin.now.height) out.old }
 {
-    let size = 8 + 16 * (C::COUNT + tree.origin.height as usize);
-    put(out, 0, &(size as u32).to_le_bytes());
-    put(out, 4, &RecordKind::Release.number().to_le_bytes());
+    let size = release_length::<C>(tree.origin.height);
+    write_header(out, RecordKind::Release, size);
     put(out, 6, &leaf.to_le_bytes());
     write_shown(tree, leaf, stamp, out, work);
 }

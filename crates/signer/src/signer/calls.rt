@@ -11,7 +11,7 @@ use crate::scratch::Scratch;
 use codes::Code;
 use growth::Tree;
 use hashes::TreeHash;
-use verifier::Refusal;
+use verifier::{Refusal, release_length};
 
 impl<H: TreeHash, C: Code> Signer<H, C> {
     // Spends the next leaf on a stamp: writes the release record at the start of the output, and answers its length and
@@ -35,7 +35,7 @@ impl<H: TreeHash, C: Code> Signer<H, C> {
         if leaf == 1 << self.origin.height {
             return Err(Refusal::Spent);
         }
-        let size = 8 + 16 * (C::COUNT + self.origin.height as usize);
+        let size = release_length::<C>(self.origin.height);
         if out.len() < size {
             return Err(Refusal::Output);
         }

@@ -10,13 +10,13 @@ use compare::Subject;
 use growth::Tree;
 use hashes::TreeHash;
 use strings::same;
-use verifier::{Refusal, read_own};
+use verifier::{Refusal, key_length, read_own};
 
 impl<H: TreeHash, C: Code> Holder<H, C> for Signer<H, C> {
     ghost signing = { signing_of };
 
     fn key(&self, out: &mut [u8]) -> Result<usize, Refusal> {
-        let size = 42 + 32 * (self.origin.height as usize + C::LEVELS as usize);
+        let size = key_length::<C>(self.origin.height);
         if out.len() < size {
             return Err(Refusal::Output);
         }

@@ -1,6 +1,6 @@
-use Rattle.std.proofs.Common.{◌≡◌, ◌+◌, ◌-◌, ◌++◌, length, drop, ap, ◌∙◌, arith, rules}
+use Rattle.std.proofs.Common.{◌+◌, ◌++◌, length, drop, refl, ap, ◌∙◌, arith}
 use Rattle.strings.specs.Strings.{little_endian}
-use Rattle.signer.proofs.KeyRecord.{six-parts, framed_is, four-long}
+use Rattle.signer.proofs.KeyRecord.{five-parts, framed_is, four-long}
 use Rattle.signer.proofs.records.write_key.Goals as goal
 
 pub returns : goal.returns
@@ -10,13 +10,10 @@ returns c =
     let key = c.args.hash_key.now in
     let masks = c.args.masks.now in
     let root = c.args.root.now in
-    let len = c.to_le_bytes.result in
-    let kind = c.to_le_bytes-2.result in
-    let first : len ≡ little_endian 4 (42 + n) = search rules in
-    let second : kind ≡ little_endian 2 1 = search rules in
-    let same : 42 + n - 42 ≡ n = omega arith in
-    six-parts c.args.out.now c.put.new.bytes c.put-2.new.bytes c.put-3.new.bytes c.put-4.new.bytes c.put-5.new.bytes c.put-6.new.bytes
-    len kind names key masks root (42 + n) (omega arith) c.requires.room
-    (ap length c.to_le_bytes.ensures) (ap length c.to_le_bytes-2.ensures) c.told-names c.told-hash_key (omega arith) c.told-root
-    (c.put.ensures.front, c.put.ensures.back) (c.put-2.ensures.front, c.put-2.ensures.back) (c.put-3.ensures.front, c.put-3.ensures.back) (c.put-4.ensures.front, c.put-4.ensures.back) (c.put-5.ensures.front, c.put-5.ensures.back) (c.put-6.ensures.front, c.put-6.ensures.back)
-    ∙ ap (λ p. p ++ drop (42 + n) c.args.out.now) (framed_is len kind names key masks root (42 + n) 1 (four-long names key masks root n c.told-names c.told-hash_key (omega arith) c.told-root) first second)
+    let len = little_endian 4 (42 + n) in
+    let kind = little_endian 2 1 in
+    five-parts c.args.out.now c.write_header.new.out c.put.new.bytes c.put-2.new.bytes c.put-3.new.bytes c.put-4.new.bytes
+    (len ++ kind) names key masks root (42 + n) (omega arith) c.requires.room
+    refl c.told-names c.told-hash_key (omega arith) c.told-root
+    (c.write_header.ensures.front, c.write_header.ensures.back) (c.put.ensures.front, c.put.ensures.back) (c.put-2.ensures.front, c.put-2.ensures.back) (c.put-3.ensures.front, c.put-3.ensures.back) (c.put-4.ensures.front, c.put-4.ensures.back)
+    ∙ ap (λ p. p ++ drop (42 + n) c.args.out.now) (framed_is len kind names key masks root (42 + n) 1 (four-long names key masks root n c.told-names c.told-hash_key (omega arith) c.told-root) refl refl)

@@ -33,6 +33,3 @@ returns g c =
       lived = grow-continues hash code m _ (Ok (m.grown + 1)) answer state;
       wiped = c.drop-guard-2.ensures;
     }
-
-pub invariant_of-self-clause-holds : goal.invariant_of-self-clause-holds
-invariant_of-self-clause-holds g c = c.add_leaf.ensures.held c.args.self.now.holds

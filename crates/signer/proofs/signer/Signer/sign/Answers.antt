@@ -1,4 +1,4 @@
-use Rattle.std.proofs.Common.{◌≡◌, ℕ, ◌+◌, ◌*◌, ◌^◌, ◌<◌, ◌≤◌, true, false, cond, ◌||◌, List, length, Ok, Err, Result, sym, ap, ◌∙◌, arith, pow_mono}
+use Rattle.std.proofs.Common.{◌≡◌, ℕ, ◌+◌, ◌^◌, ◌<◌, ◌≤◌, true, false, cond, ◌||◌, List, length, Ok, Err, Result, sym, ap, ◌∙◌, arith, pow_mono}
 use Rattle.std.proofs.lemmas.Nat.{one_shl}
 use Rattle.std.proofs.lemmas.Bool.{cond-true, cond-false, eq-eqb, or_from, ne_eqb, lt-ltb, le-ltb}
 use Rattle.strings.specs.Strings.{Str}
@@ -12,7 +12,6 @@ use Rattle.signer.specs.declared.signer.Signer.{Signer}
 use Rattle.histories.proofs.Accepting.{accepting, verifying}
 use Rattle.histories.proofs.Continuing.{sign-continues}
 use Rattle.signer.proofs.Held.{signer-strings}
-use Rattle.signer.proofs.Ledgers.{enter-fresh}
 use Rattle.signer.proofs.signer.Signer.sign.Given as given
 use Rattle.signer.proofs.signer.Signer.sign.Goals as goal
 
@@ -66,7 +65,7 @@ returns-then-out-size g c =
     let s = signing_of c.args.self.now in
     let out = c.args.out.now in
     let tall = c.args.self.now.tall in
-    let is = c.COUNT.ensures in
+    let is : c.release_length-size.result ≡ release_size code s = c.release_length-size.ensures in
     let shift = one_shl s.origin.height 16 (omega arith) in
     let left : all_spent s ≡ false = ne_eqb s.next (2 ^ s.origin.height) (λ e. c.if-leaf-self.false (e ∙ sym shift)) in
     let short : no_room code s out ≡ true = lt-ltb (length out) (release_size code s) (omega (arith, c.if-out-size.true)) in
@@ -91,13 +90,12 @@ returns g c =
     let s = signing_of c.args.self.now in
     let out = c.args.out.now in
     let tall = c.args.self.now.tall in
-    let is = c.COUNT.ensures in
+    let is : c.release_length-size.result ≡ release_size code s = c.release_length-size.ensures in
     let shift = one_shl s.origin.height 16 (omega arith) in
-    let size : 8 + 16 * (c.COUNT.result + s.origin.height) ≡ release_size code s = omega arith in
     let left : all_spent s ≡ false = ne_eqb s.next (2 ^ s.origin.height) (λ e. c.if-leaf-self.false (e ∙ sym shift)) in
     let room : no_room code s out ≡ false = le-ltb (length out) (release_size code s) (omega (arith, c.if-out-size.false)) in
     let goes = or_from (all_spent s) (no_room code s out) left room in
-    let answer = ap {B = Result (ℕ × ℕ) Refusal} (λ n. Ok (n, s.next)) size ∙ sym (cond-false (all_spent s) (Err Spent) _ left ∙ cond-false (no_room code s out) (Err Output) _ room) in
+    let answer = ap {B = Result (ℕ × ℕ) Refusal} (λ n. Ok (n, s.next)) is ∙ sym (cond-false (all_spent s) (Err Spent) _ left ∙ cond-false (no_room code s out) (Err Output) _ room) in
     let state = (λ i. record { origin = s.origin; root = s.root; next = s.next + 1; rows = c.enter.ensures i }) ∙ sym (cond-false (all_spent s || no_room code s out) s _ goes) in
     let output = c.write_release.ensures ∙ sym (cond-false (all_spent s || no_room code s out) out _ goes) in
     record {
@@ -108,19 +106,4 @@ returns g c =
       accepted = accepted g c.args.self.now c.args.stamp.now (str-from c.args.stamp.now c.told-stamp c.fits-stamp);
       accepts = accepts g c.args.self.now c.args.stamp.now (str-from c.args.stamp.now c.told-stamp c.fits-stamp);
       wiped = c.drop-guard-2.ensures;
-    }
-
-pub invariant_of-self : goal.invariant_of-self
-invariant_of-self g c =
-    let self = c.args.self.now in
-    let tall = self.tall in
-    let shift = one_shl self.origin.height 16 (omega arith) in
-    record {
-      tall = tall;
-      within = omega (arith, self.within, c.if-leaf-self.false);
-      rooted = self.rooted;
-      sized = self.sized;
-      fresh = enter-fresh _ _ self.next _ c.enter.ensures self.fresh;
-      seeded = self.seeded;
-      bytes = self.bytes;
     }

@@ -15,7 +15,7 @@ pub returns-then-out-size : goal.returns-then-out-size
 returns-then-out-size g c =
     let code = code_of g.C.Code in
     let s = signing_of c.args.self.now in
-    let is = c.LEVELS.ensures in
+    let is : c.key_length-size.result ≡ key_size code s = c.key_length-size.ensures in
     let short = lt-ltb (length c.args.out.now) (key_size code s) (omega (arith, c.if-out-size.true)) in
     let answer = sym (cond-true _ _ (Ok (key_size code s)) short) in
     let output = sym (cond-true _ c.args.out.now _ short) in
@@ -33,16 +33,15 @@ returns g c =
     let code = code_of g.C.Code in
     let s = signing_of c.args.self.now in
     let out = c.args.out.now in
-    let is = c.LEVELS.ensures in
+    let is : c.key_length-size.result ≡ key_size code s = c.key_length-size.ensures in
     let few = g.met.C.Code.level_range in
     let tall = c.args.self.now.tall in
-    let size : 42 + 32 * (s.origin.height + c.LEVELS.result) ≡ key_size code s = omega arith in
     let long = le-ltb (length out) (key_size code s) (omega (arith, c.if-out-size.false)) in
     let masked : length s.origin.masks ≡ 512 = c.args.self.now.sized.1 in
-    let cut = 42 + 32 * (s.origin.height + c.LEVELS.result) - 42 - 0 in
+    let cut = c.key_length-size.result - 42 - 0 in
     let wide : cut ≡ 32 * (s.origin.height + code.levels) = omega arith in
     let end : 42 + length (take cut s.origin.masks) ≡ key_size code s = ap (λ n. 42 + n) (length-take-le cut s.origin.masks (omega arith)) ∙ omega arith in
-    let answer = ap {B = Result ℕ Refusal} Ok size ∙ sym (cond-false _ (Err Output) _ long) in
+    let answer = ap {B = Result ℕ Refusal} Ok is ∙ sym (cond-false _ (Err Output) _ long) in
     let output =
     c.write_key.ensures
     ∙ (λ i. framed 1 (c.NUMBER.ensures i ∷ (c.NUMBER-2.ensures i ∷ (s.origin.height ∷ (0 ∷ (s.origin.hash_key ++ (take (wide i) s.origin.masks ++ s.root)))))) ++ drop (end i) out)
