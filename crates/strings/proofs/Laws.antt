@@ -1,13 +1,13 @@
 -- The laws of strings, and of rows of strings in a buffer.
 -- Assumes nothing.
-use Rattle.std.proofs.Common.{◌≡◌, ℕ, zero, suc, ◌+◌, ◌-◌, ◌*◌, ◌/◌, ◌%◌, ◌^◌, ◌<◌, ◌≤◌, ◌≢◌, List, [], ◌∷◌, ◌++◌, map, length, get_or, set, take, drop, replicate, sym, refl, ap, ◌∙◌, ⊎_elim, le_of_suc-le-suc, mod-lt, mod-eq_of_lt, zero-add, add-one, mul-zero, mul-suc, arith}
+use Rattle.std.proofs.Common.{◌≡◌, ℕ, zero, suc, ◌+◌, ◌-◌, ◌*◌, ◌/◌, ◌%◌, ◌^◌, ◌<◌, ◌≤◌, ◌≢◌, List, [], ◌∷◌, ◌++◌, map, length, get_or, set, take, drop, replicate, sym, refl, ap, ◌∙◌, ⊎_elim, le_of_suc-le-suc, mod-lt, mod-eq_of_lt, zero-add, add-one, mul-zero, mul-suc, arith, rules}
 use native.Mathlib.Nat.{mod-one, pow-succ', one-le-pow}
 use lib.Bits.{bit_xor, xor_assoc, xor_self, xor_zero_r, xor_lt}
 use lib.Arith.{mod-mul}
 use Rattle.std.specs.List.{range_with_len}
 use Rattle.std.specs.Simd.{first_chunks}
 use Rattle.std.proofs.lemmas.List.Edits.{fill_by_more}
-use Rattle.std.proofs.lemmas.List.{length-set, get_or-set_other, take-append-drop, length-append, length-take, length-drop, length-take-le, take_at, drop_at, take-take, take-append-le, drop-append-le, drop-drop, drop-take, append_assoc, same_from_push, drop-replicate, take-replicate}
+use Rattle.std.proofs.lemmas.List.{length-set, places, same_lists, get_or-set_other, take-append-drop, length-append, length-take, length-drop, length-take-le, take_at, drop_at, take-take, take-append-le, drop-append-le, drop-drop, drop-take, append_assoc, same_from_push, drop-replicate, take-replicate}
 use Rattle.std.proofs.lemmas.Bool.{cases_lt}
 use Rattle.std.proofs.ByRecursion.{All-take, All-drop, All-from_get_or}
 use Rattle.std.proofs.lemmas.List.FromFn.{length-map-range_with_len, map-range_with_len_more, fill_by_all}
@@ -24,14 +24,11 @@ get_or-xor (x ∷ s) [] k h g = absurd (omega arith)
 get_or-xor (x ∷ s) (y ∷ m) zero h g = refl
 get_or-xor (x ∷ s) (y ∷ m) (suc k) h g = get_or-xor s m k (le_of_suc-le-suc h) (le_of_suc-le-suc g)
 
-bit-back : (x y : ℕ) → bit_xor (bit_xor x y) y ≡ x
-bit-back x y = xor_assoc x y y ∙ ap (bit_xor x) (xor_self y) ∙ xor_zero_r x
-
 -- a mask takes itself away again
 pub xor-back : (s m : List ℕ) → xor (xor s m) m ≡ s
 xor-back [] m = refl
 xor-back (x ∷ s) [] = refl
-xor-back (x ∷ s) (y ∷ m) = λ i. bit-back x y i ∷ xor-back s m i
+xor-back (x ∷ s) (y ∷ m) = λ i. (xor_assoc x y y ∙ ap (bit_xor x) (xor_self y) ∙ xor_zero_r x) i ∷ xor-back s m i
 
 pub xor-injective : (s t m : List ℕ) → xor s m ≡ xor t m → s ≡ t
 xor-injective s t m e = sym (xor-back s m) ∙ ap (λ u. xor u m) e ∙ xor-back t m
@@ -58,7 +55,7 @@ pub numeral-str : (n : ℕ) → Str (numeral n)
 unfolding numeral
 numeral-str n = (length-little_endian 16 n, bytes-little_endian 16 n)
 
--- rows of pieces of any width w: what stands at piece i, and what a write to one piece leaves
+-- pieces of any width w: what stands at a piece, and what a write to one piece leaves
 module _ (w : ℕ) where
   abbrev piece : List ℕ → ℕ → List ℕ
   piece bytes at = take w (drop at bytes)
@@ -66,59 +63,30 @@ module _ (w : ℕ) where
   abbrev put : List ℕ → ℕ → List ℕ → List ℕ
   put bytes at s = take at bytes ++ (s ++ drop (at + w) bytes)
 
-  length-piece : (bytes : List ℕ) (at : ℕ) → at + w ≤ length bytes → length (piece bytes at) ≡ w
-  length-piece bytes at h = length-take-le w (drop at bytes) (rw length-drop (omega arith))
-
-  length-put : (bytes : List ℕ) (at : ℕ) (s : List ℕ) → at + w ≤ length bytes → length s ≡ w → length (put bytes at s) ≡ length bytes
-  length-put bytes at s h e = simp (length-append, length-drop, length-take) (omega arith)
+  -- a piece that lies in the front of a list
+  pub piece-front : (front rest : List ℕ) (at : ℕ) → at + w ≤ length front → piece (front ++ rest) at ≡ piece front at
+  piece-front front rest at h = same_lists _ _ (search (rules, places)) (λ j d lt. grind (arith, places))
 
   piece-put-same : (bytes : List ℕ) (at : ℕ) (s : List ℕ) → at + w ≤ length bytes → length s ≡ w → piece (put bytes at s) at ≡ s
-  piece-put-same bytes at s h e =
-      let front : length (take at bytes) ≡ at = length-take-le at bytes (omega arith) in
-      ap (take w) (drop_at (take at bytes) (s ++ drop (at + w) bytes) at front) ∙ take_at s (drop (at + w) bytes) w e
+  piece-put-same bytes at s h e = search (rules, drop_at, take_at)
 
-  piece-put-before : (bytes : List ℕ) (at k : ℕ) (s : List ℕ) → k + w ≤ at → at ≤ length bytes → piece (put bytes at s) k ≡ piece bytes k
-  piece-put-before bytes at k s h fits =
-      let r = at - k in
-      let whole : k + r ≡ at = omega arith in
-      let front : length (take at bytes) ≡ at = length-take-le at bytes fits in
-      let within : k ≤ length (take at bytes) = omega arith in
-      let mid : drop k (take at bytes) ≡ take r (drop k bytes) = ap (λ n. drop k (take n bytes)) (sym whole) ∙ drop-take k r bytes in
-      let long : w ≤ length (drop k (take at bytes)) = rw length-drop (omega arith) in
-      let room : w ≤ r = omega arith in
-      ap (take w) (drop-append-le k (take at bytes) (s ++ drop (at + w) bytes) within)
-      ∙ take-append-le w (drop k (take at bytes)) (s ++ drop (at + w) bytes) long
-      ∙ ap (take w) mid
-      ∙ take-take w r (drop k bytes) room
-
-  piece-put-after : (bytes : List ℕ) (at k : ℕ) (s : List ℕ) → at + w ≤ k → at ≤ length bytes → length s ≡ w → piece (put bytes at s) k ≡ piece bytes k
-  piece-put-after bytes at k s h fits e =
-      let r = k - (at + w) in
-      let whole : (at + w) + r ≡ k = omega arith in
-      let front : length (take at bytes) ≡ at = length-take-le at bytes fits in
-      let head : length (take at bytes ++ s) ≡ at + w = length-append (take at bytes) s ∙ omega arith in
-      let rest : drop (at + w) (put bytes at s) ≡ drop (at + w) bytes = ap (drop (at + w)) (sym (append_assoc (take at bytes) s (drop (at + w) bytes))) ∙ drop_at (take at bytes ++ s) (drop (at + w) bytes) (at + w) head in
-      let moved : (xs : List ℕ) → drop r (drop (at + w) xs) ≡ drop k xs = λ xs. drop-drop r (at + w) xs ∙ ap (λ n. drop n xs) whole in
-      ap (take w) (sym (moved (put bytes at s)) ∙ ap (drop r) rest ∙ moved bytes)
+  piece-put-other : (bytes : List ℕ) (at k : ℕ) (s : List ℕ) → at + w ≤ length bytes → length s ≡ w → (k < at + w → k + w ≤ at) → piece (put bytes at s) k ≡ piece bytes k
+  piece-put-other bytes at k s h e apart = same_lists _ _ (search (rules, places)) (λ j d lt. grind (arith, places))
 
 pub length-string_at : (bytes : List ℕ) (i : ℕ) → 16 * i + 16 ≤ length bytes → length (string_at bytes i) ≡ 16
-length-string_at bytes i h = length-piece 16 bytes (16 * i) h
+length-string_at bytes i h = search (rules, places)
 
 pub string_at-str : (bytes : List ℕ) (i : ℕ) → 16 * i + 16 ≤ length bytes → Bytes bytes → Str (string_at bytes i)
 string_at-str bytes i h b = (length-string_at bytes i h, All-take (λ x. x < 256) 16 (drop (16 * i) bytes) (All-drop (λ x. x < 256) (16 * i) bytes b))
 
 pub length-put_string : (bytes : List ℕ) (i : ℕ) (s : List ℕ) → 16 * i + 16 ≤ length bytes → length s ≡ 16 → length (put_string bytes i s) ≡ length bytes
-length-put_string bytes i s h e = length-put 16 bytes (16 * i) s h e
+length-put_string bytes i s h e = search (rules, places)
 
 pub at-put-same : (bytes : List ℕ) (i : ℕ) (s : List ℕ) → 16 * i + 16 ≤ length bytes → length s ≡ 16 → string_at (put_string bytes i s) i ≡ s
 at-put-same bytes i s h e = piece-put-same 16 bytes (16 * i) s h e
 
 pub at-put-other : (bytes : List ℕ) (i k : ℕ) (s : List ℕ) → 16 * i + 16 ≤ length bytes → length s ≡ 16 → k ≢ i → string_at (put_string bytes i s) k ≡ string_at bytes k
-at-put-other bytes i k s h e ne =
-    ⊎_elim
-    (λ (lt : k < i). piece-put-before 16 bytes (16 * i) (16 * k) s (omega arith) (omega arith))
-    (λ (le : i ≤ k). piece-put-after 16 bytes (16 * i) (16 * k) s (omega arith) (omega arith) e)
-    (cases_lt k i)
+at-put-other bytes i k s h e ne = piece-put-other 16 bytes (16 * i) (16 * k) s h e (λ lt. omega arith)
 
 -- a number below 256 ^ k is known by its k bytes
 pub little_endian-injective : (k m n : ℕ) → little_endian k m ≡ little_endian k n → m % 256 ^ k ≡ n % 256 ^ k
