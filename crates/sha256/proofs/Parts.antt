@@ -2,8 +2,9 @@
 -- Assumes nothing.
 use Rattle.std.proofs.Common.{◌≡◌, ℕ, ◌+◌, ◌-◌, ◌*◌, ◌<◌, ◌≤◌, List, [], ◌∷◌, ◌++◌, length, get_or, take, drop, set, replicate, sym, ap, ◌∙◌, arith}
 use Rattle.std.specs.List.{flat_map}
+use Rattle.std.proofs.Math.Seq.{take-add}
 use Rattle.strings.proofs.Laws.{part-more}
-use Rattle.std.proofs.lemmas.List.{append_assoc, take_more, take_more_set, take-append-drop, take-take, drop-take, drop-drop, drop-set-lt, drop-replicate, take-replicate, flat_map_more}
+use Rattle.std.proofs.lemmas.List.{append_assoc, take_more, take_more_set, drop-drop, drop-set-lt, drop-replicate, take-replicate, flat_map_more}
 
 -- a tag of 4 bytes and two strings, written one after another
 pub three-parts : (b₁ b₂ b₃ tag key s : List ℕ) → length key ≡ 16 → length s ≡ 16 → take 4 b₁ ≡ tag → take (4 + length key) b₂ ≡ take 4 b₁ ++ key → take (20 + length s) b₃ ≡ take 20 b₂ ++ s → take 36 b₃ ≡ tag ++ (key ++ s)
@@ -19,11 +20,6 @@ pieces_more f ws b b' part i h is before piece four =
     ∙ flat_map_more f [] (take i ws) (get_or ws i 0)
     ∙ ap (flat_map f) (sym (take_more ws i 0 h))
 
-split : (n k : ℕ) (xs : List ℕ) → take (n + k) xs ≡ take n xs ++ take k (drop n xs)
-split n k xs =
-    sym (take-append-drop n (take (n + k) xs))
-    ∙ (λ i. take-take n (n + k) xs (omega arith) i ++ drop-take n k xs i)
-
 -- a buffer of zeros with the part p written at its front (b), then the byte x after it, and, from at on, the part q (c)
 pub padded-buffer : (w x z at : ℕ) (b c p q : List ℕ) → take (length p) b ≡ p → drop (length p) b ≡ drop (length p) (replicate w 0) → length p < length b → at ≡ length p + 1 + z → at ≤ w → take (at + length q) c ≡ take at (set b (length p) x) ++ q → take (at + length q) c ≡ p ++ (x ∷ (replicate z 0 ++ q))
 padded-buffer w x z at b c p q front back room is fits end =
@@ -32,7 +28,7 @@ padded-buffer w x z at b c p q front back room is fits end =
     let one : n < n + 1 = omega arith in
     let rest : drop (n + 1) (set b n x) ≡ replicate (w - n - 1) 0 = drop-set-lt (n + 1) b n x one ∙ sym (drop-drop 1 n b) ∙ ap (drop 1) (back ∙ drop-replicate n w 0) ∙ drop-replicate 1 (w - n) 0 in
     let zs : take z (drop (n + 1) (set b n x)) ≡ replicate z 0 = ap (take z) rest ∙ take-replicate z (w - n - 1) 0 (omega arith) in
-    let whole : take at (set b n x) ≡ (p ++ x ∷ []) ++ replicate z 0 = ap (λ k. take k (set b n x)) is ∙ split (n + 1) z (set b n x) ∙ (λ i. head i ++ zs i) in
+    let whole : take at (set b n x) ≡ (p ++ x ∷ []) ++ replicate z 0 = ap (λ k. take k (set b n x)) is ∙ take-add (n + 1) z (set b n x) ∙ (λ i. head i ++ zs i) in
     end
     ∙ ap (λ r. r ++ q) whole
     ∙ append_assoc (p ++ x ∷ []) (replicate z 0) q

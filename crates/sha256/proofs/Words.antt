@@ -3,7 +3,6 @@
 use Rattle.std.proofs.Common.{◌≡◌, ℕ, ◌+◌, ◌-◌, ◌*◌, ◌^◌, ◌<◌, ◌≤◌, List, [], ◌∷◌, ◌++◌, map, length, get_or, take, drop, set, sym, refl, ap, ◌∙◌, add-one, arith}
 use Rattle.std.specs.List.{range_with_len}
 use Rattle.std.proofs.lemmas.List.FromFn.{fill_by_all}
-use Rattle.std.proofs.lemmas.List.Edits.{fill_by_more}
 use Rattle.std.proofs.lemmas.List.{length-take-le, get_or-take, get_or-drop, take_more_set}
 use Rattle.std.specs.Simd.{first_chunks}
 use Rattle.strings.proofs.Laws.{chunk_at}
@@ -21,10 +20,6 @@ word-chunk block t k chunks h is =
     let b2 = at 2 (4 * t + 2) (omega arith) (omega arith) in
     let b3 = at 3 (4 * t + 3) (omega arith) (omega arith) in
     λ i. b0 i * 2 ^ 24 + b1 i * 2 ^ 16 + b2 i * 2 ^ 8 + b3 i
-
--- a row that is filled by f below i, and at i
-pub filled_more : (f : ℕ → ℕ) (xs : List ℕ) (i x : ℕ) → i < length xs → x ≡ f i → ((k : ℕ) → k < i → get_or xs k 0 ≡ f k) → (k : ℕ) → k < i + 1 → get_or (set xs i x) k 0 ≡ f k
-filled_more f xs i x h is below k l = ap (λ y. get_or (set xs i y) k 0) is ∙ fill_by_more f xs i 0 h below k l
 
 -- a row whose first n places are filled by f
 pub front-filled : (f : ℕ → ℕ) (xs : List ℕ) (n : ℕ) → n ≤ length xs → ((k : ℕ) → k < n → get_or xs k 0 ≡ f k) → take n xs ≡ map f (range_with_len 0 n)

@@ -1,15 +1,14 @@
 -- The laws of strings, and of rows of strings in a buffer.
 -- Assumes nothing.
-use Rattle.std.proofs.Common.{◌≡◌, ℕ, zero, suc, ◌+◌, ◌-◌, ◌*◌, ◌/◌, ◌%◌, ◌^◌, ◌<◌, ◌≤◌, ◌≢◌, List, [], ◌∷◌, ◌++◌, map, length, get_or, set, take, drop, replicate, sym, refl, ap, ◌∙◌, ⊎_elim, le_of_suc-le-suc, mod-lt, mod-eq_of_lt, zero-add, add-one, mul-zero, mul-suc, arith, rules}
+use Rattle.std.proofs.Common.{◌≡◌, ℕ, zero, suc, ◌+◌, ◌-◌, ◌*◌, ◌/◌, ◌%◌, ◌^◌, ◌<◌, ◌≤◌, ◌≢◌, List, [], ◌∷◌, ◌++◌, map, length, get_or, set, take, drop, replicate, sym, refl, ap, ◌∙◌, le_of_suc-le-suc, mod-eq_of_lt, zero-add, add-one, mul-zero, mul-suc, arith, rules}
 use native.Mathlib.Nat.{mod-one, pow-succ', one-le-pow}
 use lib.Bits.{bit_xor, xor_assoc, xor_self, xor_zero_r, xor_lt}
 use lib.Arith.{mod-mul}
 use Rattle.std.specs.List.{range_with_len}
 use Rattle.std.specs.Simd.{first_chunks}
 use Rattle.std.proofs.lemmas.List.Edits.{fill_by_more}
-use Rattle.std.proofs.lemmas.List.{length-set, places, same_lists, get_or-set_other, take-append-drop, length-append, length-take, length-drop, length-take-le, take_at, drop_at, take-take, take-append-le, drop-append-le, drop-drop, drop-take, append_assoc, same_from_push, drop-replicate, take-replicate}
-use Rattle.std.proofs.lemmas.Bool.{cases_lt}
-use Rattle.std.proofs.ByRecursion.{All-take, All-drop, All-from_get_or}
+use Rattle.std.proofs.lemmas.List.{length-set, places, same_lists, get_or-set_other, take-append-drop, length-append, take_at, drop_at, drop-drop, same_from_push, drop-replicate, take-replicate}
+use Rattle.std.proofs.ByRecursion.{All-take, All-drop, All-map, All-from_get_or}
 use Rattle.std.proofs.lemmas.List.FromFn.{length-map-range_with_len, map-range_with_len_more, fill_by_all}
 use Rattle.strings.specs.Strings.{Bytes, Str, zero_string, xor, little_endian, numeral, string_at, put_string}
 
@@ -41,12 +40,8 @@ xor_bytes (x ∷ s) (y ∷ m) a b = (xor_lt 8 x y a.0 b.0, xor_bytes s m a.1 b.1
 pub xor-str : (s m : List ℕ) → Str s → Str m → Str (xor s m)
 xor-str s m a b = (length-xor s m ∙ a.0, xor_bytes s m a.1 b.1)
 
-digits-bytes : (n : ℕ) (js : List ℕ) → Bytes (map (λ j. n / 256 ^ j % 256) js)
-digits-bytes n [] = tt
-digits-bytes n (j ∷ js) = (mod-lt (n / 256 ^ j) (omega arith), digits-bytes n js)
-
 pub bytes-little_endian : (k n : ℕ) → Bytes (little_endian k n)
-bytes-little_endian k n = digits-bytes n (range_with_len 0 k)
+bytes-little_endian k n = All-map (λ x. x < 256) (λ j. n / 256 ^ j % 256) (range_with_len 0 k) (All-from_get_or (λ j. n / 256 ^ j % 256 < 256) (range_with_len 0 k) 0 (λ i h. omega arith))
 
 pub length-little_endian : (k n : ℕ) → length (little_endian k n) ≡ k
 length-little_endian k n = length-map-range_with_len (λ j. n / 256 ^ j % 256) 0 k
@@ -109,6 +104,10 @@ chunk_at w (suc k) zero xs h = ap (λ n. take w (drop n xs)) (sym (mul-zero w))
 chunk_at w (suc k) (suc i) xs h =
     chunk_at w k i (drop w xs) (le_of_suc-le-suc h) ∙ ap (take w) (drop-drop (w * i) w xs ∙ ap (λ n. drop n xs) (omega (arith, mul-suc w i)))
 
+-- a row that is filled by f below i, and at i
+pub filled_more : (f : ℕ → ℕ) (xs : List ℕ) (i x : ℕ) → i < length xs → x ≡ f i → ((k : ℕ) → k < i → get_or xs k 0 ≡ f k) → (k : ℕ) → k < i + 1 → get_or (set xs i x) k 0 ≡ f k
+filled_more f xs i x h is below k l = ap (λ y. get_or (set xs i y) k 0) is ∙ fill_by_more f xs i 0 h below k l
+
 -- a list that is edited place by place: f says what is new, and from place j on it is as it was
 abbrev pub Edited : (ℕ → ℕ) → List ℕ → List ℕ → ℕ → Type 0
 Edited f old new j = (length new ≡ length old) × ((k : ℕ) → k < j → get_or new k 0 ≡ f k) × ((k : ℕ) → j ≤ k → get_or new k 0 ≡ get_or old k 0)
@@ -119,7 +118,7 @@ edited-none f old = (refl, λ k h. absurd (omega arith), λ k h. refl)
 pub edited-more : (f : ℕ → ℕ) (old new : List ℕ) (j v : ℕ) → j < length old → v ≡ f j → Edited f old new j → Edited f old (set new j v) (j + 1)
 edited-more f old new j v h e s = (
   length-set new j v ∙ s.0,
-  λ k g. ap (λ y. get_or (set new j y) k 0) e ∙ fill_by_more f new j 0 (omega arith) s.1 k g,
+  filled_more f new j v (omega arith) e s.1,
   λ k g. get_or-set_other new j k v 0 (λ q. absurd (omega arith)) ∙ s.2 k (omega arith),
 )
 
@@ -150,10 +149,9 @@ pub written-more : (b₀ b b' p part : List ℕ) (at : ℕ) → Written b₀ b p
 written-more b₀ b b' p part at w here room front back =
     let n = length part in
     let long = length-append p part in
-    let head : take at b ≡ p = ap (take at) w.0 ∙ take_at p (drop (length p) b₀) at here in
     let rest : drop at b ≡ drop (length p) b₀ = ap (drop at) w.0 ∙ drop_at p (drop (length p) b₀) at here in
     let tail : drop (at + n) b ≡ drop (length (p ++ part)) b₀ =
     sym (drop-drop n at b) ∙ ap (drop n) rest ∙ drop-drop n (length p) b₀ ∙ ap (λ k. drop k b₀) (sym long) in (
-      sym (take-append-drop (at + n) b') ∙ (λ i. (front ∙ ap (λ q. q ++ part) head) i ++ (back ∙ tail) i),
+      sym (take-append-drop (at + n) b') ∙ (λ i. part-more b b' p part at (at + n) front (ap (take at) w.0 ∙ take_at p (drop (length p) b₀) at here) refl i ++ (back ∙ tail) i),
       omega arith,
     )
