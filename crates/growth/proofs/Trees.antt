@@ -27,8 +27,8 @@ module _ (hash : Hash) (code : Code) (o : Origin) where
       ∙ (λ j. leaf_string hash code o (sym (digits_div i {m = size} {r = k} h) j) (sym (digits_mod i {m = size} {r = k} h) j)))
       ∙ ap (λ d. node (parent_at hash o) (bottom hash code o) o.height d i) deep
 
-  -- a node above the leaves is the parent of the two below it
-  pub node-up : (a b : ℕ) → a < o.height → node_at hash code o a b ≡ parent_at hash o a (node_at hash code o (a + 1) (2 * b)) (node_at hash code o (a + 1) (2 * b + 1))
+  -- a node above the bottom is the parent of the two below it
+  pub node-up : (a b : ℕ) → a < o.height + code.levels → node_at hash code o a b ≡ parent_at hash o a (node_at hash code o (a + 1) (2 * b)) (node_at hash code o (a + 1) (2 * b + 1))
   node-up a b h =
       let d = o.height + code.levels - (a + 1) in
       let up : o.height + code.levels - a ≡ d + 1 = omega arith in

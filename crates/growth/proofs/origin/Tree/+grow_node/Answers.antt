@@ -1,5 +1,5 @@
-use Rattle.std.proofs.Common.{◌≡◌, ◌+◌, ◌*◌, ◌^◌, sym, ap, ◌∙◌, add-one, arith, rules}
-use native.Mathlib.Nat.{pow-succ'}
+use Rattle.std.proofs.Common.{sym, ◌∙◌, arith, rules}
+use Rattle.std.proofs.lemmas.Grind.{pow_more}
 use Rattle.tree.specs.Meaning.{hash_of, code_of}
 use Rattle.tree.specs.Nodes.{join}
 use Rattle.growth.specs.Grown.{parent_at}
@@ -8,12 +8,12 @@ use Rattle.growth.proofs.origin.Tree.+grow_node.Goals as goal
 
 pub grow_node-left-requires : goal.grow_node-left-requires
 grow_node-left-requires g t c κs within =
-    let twice : 2 ^ (c.args.level + 1) ≡ 2 * 2 ^ c.args.level = ap (λ n. 2 ^ n) (add-one c.args.level) ∙ pow-succ' 2 c.args.level in
+    let twice = pow_more 2 c.args.level in
     search rules
 
 pub grow_node-right-requires : goal.grow_node-right-requires
 grow_node-right-requires g t c κs within =
-    let twice : 2 ^ (c.args.level + 1) ≡ 2 * 2 ^ c.args.level = ap (λ n. 2 ^ n) (add-one c.args.level) ∙ pow-succ' 2 c.args.level in
+    let twice = pow_more 2 c.args.level in
     search rules
 
 pub returns : goal.returns
