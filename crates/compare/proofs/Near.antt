@@ -7,14 +7,11 @@ use lib.Pow.{split}
 use Rattle.std.proofs.lemmas.Nat.{shr-shr}
 use Rattle.std.proofs.lemmas.Bool.{cases_eq, cases_lt}
 use Rattle.growth.specs.Shown.{sibling_of}
-use Rattle.growth.proofs.Paths.{sibling-even, sibling-odd}
+use Rattle.growth.proofs.Paths.{shr-none, sibling-is}
 
 -- of a tree of height h, position b of level a is above leaf i or within it
 abbrev pub Near : ℕ → ℕ → ℕ → ℕ → Type 0
 Near h i a b = b / 2 ^ (a - h) ≡ i / 2 ^ (h - a)
-
-shr-none : (n e : ℕ) → e ≡ 0 → n / 2 ^ e ≡ n
-shr-none n e z = ap (λ k. n / 2 ^ k) z ∙ omega arith
 
 shr_one : (n e e' : ℕ) → e + 1 ≡ e' → n / 2 ^ e / 2 ≡ n / 2 ^ e'
 shr_one n e e' up = shr-shr n e 1 ∙ ap (λ k. n / 2 ^ k) up
@@ -29,14 +26,6 @@ child P c left right =
     (λ (even : c % 2 ≡ 0). subst P (let e : 2 * (c / 2) ≡ c = omega arith in e) left)
     (λ (odd : c % 2 ≡ 0 → ⊥). subst P (let e : 2 * (c / 2) + 1 ≡ c = omega arith in e) right)
     (cases_eq (c % 2) 0)
-
--- the sibling of an even place is the next one, and of an odd place the one before
-sibling-is : (b : ℕ) → sibling_of b ≡ b + 1 - 2 * (b % 2)
-sibling-is b =
-    ⊎_elim
-    (λ (even : b % 2 ≡ 0). sibling-even b even ∙ omega arith)
-    (λ (odd : b % 2 ≡ 0 → ⊥). sibling-odd b odd ∙ omega arith)
-    (cases_eq (b % 2) 0)
 
 pub sibling-half : (b : ℕ) → sibling_of b / 2 ≡ b / 2
 sibling-half b = omega (arith, sibling-is b)

@@ -17,7 +17,8 @@ use Rattle.compare.specs.declared.verdict.Find.{Find}
 use Rattle.compare.specs.declared.verdict.Verdict.{Verdict}
 use Rattle.compare.specs.declared.verdict.Verdict.TheVariants.{Node, Chain, Unrevealed}
 use Rattle.compare.proofs.Firsts.{first-none, first_more, last_none, last_more}
-use Rattle.compare.proofs.Nodes.{our-parent, their-parent}
+use Rattle.growth.proofs.Trees.{node-up}
+use Rattle.compare.proofs.Nodes.{their-parent}
 
 -- the first of n places from a on of which Here holds: of each place before it Other holds
 pub record First (Here Other : ℕ → Type 0) (a n : ℕ) : Type 0 where
@@ -173,7 +174,7 @@ module _ (hash : Hash) (code : Code) (t : Traced) where
   -- at one place
   node-found : (a b : ℕ) → a < h + code.levels → b / 2 ^ (a - h) ≡ t.leaf / 2 ^ (h - a) → MatchOption (node_find_at hash code t a b) (NodeBreak hash code t a b → ⊥) (λ x. NodeBreak hash code t a b × (x ≡ node_find a b))
   node-found a b lt near =
-      let our = our-parent hash code t a b lt in
+      let our = node-up hash code t.origin a b lt in
       let their = their-parent hash code t a b lt near in
       when-cases _ (node_find a b)
       (Decides-like _ (λ p. record { inner = lt; near = near; equal = our ∙ p.0 ∙ sym their; differ = p.1 }) (λ n. (sym our ∙ n.equal ∙ their, n.differ))

@@ -9,12 +9,13 @@ use Rattle.tree.specs.Rebuilt.{rebuilt}
 use Rattle.tree.proofs.Laws.{one-time-past}
 use Rattle.growth.specs.Grown.{secret, leaf_string, parent_at, node_at}
 use Rattle.growth.specs.Shown.{sibling_of, shown_row}
+use Rattle.growth.proofs.Trees.{node-up}
 use Rattle.compare.specs.Sides.{Traced, our_chain, their_chain, our_node, their_node, left_input, right_input, revealed_height}
 use Rattle.compare.specs.Found.{NodeBreak, ChainBreak, Hidden, Found, ours}
 use Rattle.compare.specs.declared.verdict.Verdict.TheVariants.{Ours}
 use Rattle.compare.proofs.Lawful.{Lawful}
 use Rattle.compare.proofs.Near.{Near, child, sibling-half, root-only, near-way, near_up, near-bottom, below-near}
-use Rattle.compare.proofs.Nodes.{our-parent, their-parent, their-root}
+use Rattle.compare.proofs.Nodes.{their-parent, their-root}
 use Rattle.compare.proofs.Rows.{same_or_not, same-unless, both-unless, another}
 use Rattle.compare.proofs.Agreeing.{SameNode, SameChain, our_step, their-step, their-first, their_string, our-bottom, their-bottom, our-top, their-top, their-sibling, ShowsChains, ShowsSiblings, row_shows, shows-row}
 
@@ -144,7 +145,7 @@ module _ (hash : Hash) (code : Code) (t : Traced) where
         (λ e lt. sym (siblings e lt) ∙ sym (their-sibling hash code t e lt))
         (λ k lt. our-bottom hash code t k lt ∙ string-shown k ∙ sym (their-bottom hash code t k lt))
         (λ a' b' inner near left right.
-        our-parent hash code t a' b' inner ∙ (λ i. parent_at hash t.origin a' (left i) (right i)) ∙ sym (their-parent hash code t a' b' inner near))
+        node-up hash code t.origin a' b' inner ∙ (λ i. parent_at hash t.origin a' (left i) (right i)) ∙ sym (their-parent hash code t a' b' inner near))
         a b break.inner break.near in
         break.differ (ap (λ s. xor s (string_at t.origin.masks (2 * a))) under.0, ap (λ s. xor s (string_at t.origin.masks (2 * a + 1))) under.1)
 

@@ -48,7 +48,7 @@ module _ (hash : Hash) (code : Code) (t : Traced) (l : ℕ) (within : l ≤ code
       (λ e lt. siblings e lt ∙ sym (their-sibling hash code t e lt))
       level
       (λ a' b' inner' near' left right.
-      our-parent hash code t a' b' (omega arith) ∙ (λ i. parent_at hash t.origin a' (left i) (right i)) ∙ sym (their-parent hash code t a' b' (omega arith) near'))
+      node-up hash code t.origin a' b' (omega arith) ∙ (λ i. parent_at hash t.origin a' (left i) (right i)) ∙ sym (their-parent hash code t a' b' (omega arith) near'))
       a b inner near in
       let left = their_node hash code t (a + 1) (2 * b) in
       let right = their_node hash code t (a + 1) (2 * b + 1) in
