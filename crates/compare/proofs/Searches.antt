@@ -6,7 +6,7 @@ use lib.Arith.{digits_div}
 use Rattle.std.specs.Option.{option_or}
 use Rattle.std.specs.Bool.{then_some}
 use Rattle.std.proofs.lemmas.Slice.Eq.{bytes_eq-Decides}
-use Rattle.std.proofs.lemmas.Option.{MatchOption-at_some, MatchOption-at_none}
+use Rattle.std.proofs.lemmas.Option.{MatchOption-at_some}
 use Rattle.std.proofs.lemmas.Bool.{cases_lt, cases_order, false≢true}
 use Rattle.std.proofs.lemmas.Bool.Decides.{Decides-and, Decides-not, Decides-ltb, Decides-like}
 use Rattle.tree.specs.Meaning.{Hash, Code}
@@ -16,7 +16,7 @@ use Rattle.compare.specs.Found.{NodeBreak, ChainBreak, Hidden, node_report, chai
 use Rattle.compare.specs.declared.verdict.Find.{Find}
 use Rattle.compare.specs.declared.verdict.Verdict.{Verdict}
 use Rattle.compare.specs.declared.verdict.Verdict.TheVariants.{Node, Chain, Unrevealed}
-use Rattle.compare.proofs.Firsts.{first-none, first_more, last_none, last_more}
+use Rattle.compare.proofs.Firsts.{first_more}
 use Rattle.growth.proofs.Trees.{node-up}
 use Rattle.compare.proofs.Nodes.{their-parent}
 
@@ -68,16 +68,17 @@ module _ (N : ℕ → Type 0) (Q : ℕ → Find → Type 0) (a : ℕ) where
   last_step n None None s c = nowhere-more n s c
 
   pub first-cases : (f : ℕ → Option Find) (n : ℕ) → ((k : ℕ) → a ≤ k → k < a + n → MatchOption (f k) (N k) (Q k)) → FirstOf n (first_from f a n)
-  first-cases f zero each = subst (FirstOf 0) (sym (first-none f a)) (λ k lo hi. absurd (omega arith))
+  unfolding first_from
+  first-cases f zero each = λ k lo hi. absurd (omega arith)
   first-cases f (suc n) each =
       subst (λ m. FirstOf m (first_from f a m)) (add-one n)
       (subst (FirstOf (n + 1)) (sym (first_more f a n)) (first_step n (first_from f a n) (f (a + n)) (first-cases f n (λ k lo hi. each k lo (omega arith))) (each (a + n) (omega arith) (omega arith))))
 
   pub last-cases : (f : ℕ → Option Find) (n : ℕ) → ((k : ℕ) → a ≤ k → k < a + n → MatchOption (f k) (N k) (Q k)) → LastOf n (last_from f a n)
-  last-cases f zero each = subst (LastOf 0) (sym (last_none f a)) (λ k lo hi. absurd (omega arith))
+  unfolding last_from
+  last-cases f zero each = λ k lo hi. absurd (omega arith)
   last-cases f (suc n) each =
-      subst (λ m. LastOf m (last_from f a m)) (add-one n)
-      (subst (LastOf (n + 1)) (sym (last_more f a n)) (last_step n (last_from f a n) (f (a + n)) (last-cases f n (λ k lo hi. each k lo (omega arith))) (each (a + n) (omega arith) (omega arith))))
+      subst (λ m. LastOf m (last_from f a (suc n))) (add-one n) (last_step n (last_from f a n) (f (a + n)) (last-cases f n (λ k lo hi. each k lo (omega arith))) (each (a + n) (omega arith) (omega arith)))
 
 -- the same, of the finds themselves
 itself : (o : Option Find) → MatchOption o (o ≡ None) (λ x. o ≡ Some x)
@@ -88,14 +89,8 @@ module _ (f : ℕ → Option Find) (a n : ℕ) where
   pub first_found : (x : Find) → first_from f a n ≡ Some x → First (λ k. f k ≡ Some x) (λ k. f k ≡ None) a n
   first_found x e = MatchOption-at_some _ _ x e (first-cases (λ k. f k ≡ None) (λ k y. f k ≡ Some y) a f n (λ k lo hi. itself (f k)))
 
-  pub first-nothing : first_from f a n ≡ None → (k : ℕ) → a ≤ k → k < a + n → f k ≡ None
-  first-nothing e = MatchOption-at_none _ _ e (first-cases (λ k. f k ≡ None) (λ k y. f k ≡ Some y) a f n (λ k lo hi. itself (f k)))
-
   pub last_found : (x : Find) → last_from f a n ≡ Some x → Last (λ k. f k ≡ Some x) (λ k. f k ≡ None) a n
   last_found x e = MatchOption-at_some _ _ x e (last-cases (λ k. f k ≡ None) (λ k y. f k ≡ Some y) a f n (λ k lo hi. itself (f k)))
-
-  pub last-nothing : last_from f a n ≡ None → (k : ℕ) → a ≤ k → k < a + n → f k ≡ None
-  last-nothing e = MatchOption-at_none _ _ e (last-cases (λ k. f k ≡ None) (λ k y. f k ≡ Some y) a f n (λ k lo hi. itself (f k)))
 
 -- facts about an option made weaker
 cases-weaker : {P P' : Type 0} {Q Q' : Find → Type 0} (o : Option Find) → MatchOption o P Q → (P → P') → ((x : Find) → Q x → Q' x) → MatchOption o P' Q'
