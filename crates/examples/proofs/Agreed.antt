@@ -16,7 +16,8 @@ use Rattle.compare.specs.declared.verdict.Find.{Find}
 use Rattle.compare.proofs.Agreeing.{SameNode, their-sibling}
 use Rattle.compare.proofs.Firsts.{first-split}
 use Rattle.compare.proofs.Near.{Near, below-near}
-use Rattle.compare.proofs.Nodes.{our-parent, their-parent}
+use Rattle.growth.proofs.Trees.{node-up}
+use Rattle.compare.proofs.Nodes.{their-parent}
 
 -- a search that finds nothing at any place
 nowhere : (f : ℕ → Option Find) (a n : ℕ) → ((b : ℕ) → a ≤ b → b < a + n → f b ≡ None) → first_from f a n ≡ None
