@@ -8,11 +8,12 @@ use Rattle.tree.specs.Nodes.{raise, node, one_time}
 use Rattle.tree.proofs.Laws.{raise-none, raise-more, node-bottom, one-time-chain}
 use Rattle.growth.specs.Grown.{secret, leaf_string, parent_at}
 use Rattle.growth.specs.Shown.{sibling_of, shown_string, shown_row}
+use Rattle.growth.proofs.Trees.{node-up}
 use Rattle.growth.proofs.Strings.{row_at, row-long, shown-str}
 use Rattle.compare.specs.Sides.{Traced, our_chain, their_chain, our_node, their_node}
 use Rattle.compare.proofs.Lawful.{Lawful}
-use Rattle.compare.proofs.Near.{sibling-other}
-use Rattle.compare.proofs.Nodes.{our-inner, their-inner, their-beside}
+use Rattle.compare.proofs.Near.{Near, sibling-other, below-near}
+use Rattle.compare.proofs.Nodes.{our-inner, their-inner, their-beside, their-parent}
 use Rattle.compare.proofs.Rows.{same_rows}
 
 module _ (hash : Hash) (code : Code) (t : Traced) where
@@ -81,6 +82,14 @@ module _ (hash : Hash) (code : Code) (t : Traced) where
       their-beside hash code t e (sibling_of (t.leaf / 2 ^ e)) (omega arith) (sibling-other (t.leaf / 2 ^ e))
       ∙ ap (λ n. string_at t.row (code.count + n)) back
 
+  -- sides that have one node beside the way up, and at each place l levels below the leaf, have one below each node above those
+  pub same-below : (l : ℕ) → l ≤ code.levels → ((e : ℕ) → e < h → our_node hash code t (h - e) (sibling_of (t.leaf / 2 ^ e)) ≡ string_at t.row (code.count + e)) → ((k : ℕ) → k < 2 ^ l → SameNode (h + l) (t.leaf * 2 ^ l + k)) → (a b : ℕ) → a < h + l → Near h t.leaf a b → SameNode (a + 1) (2 * b) × SameNode (a + 1) (2 * b + 1)
+  same-below l within siblings level a b inner near =
+      below-near h t.leaf l SameNode (λ e lt. siblings e lt ∙ sym (their-sibling e lt)) level
+      (λ a b inner near left right.
+      node-up hash code t.origin a b (omega arith) ∙ (λ i. parent_at hash t.origin a (left i) (right i)) ∙ sym (their-parent hash code t a b (omega arith) near))
+      a b inner near
+
   -- what a release of the leaf shows for the stamp
   abbrev shown : ℕ → List ℕ
   shown = shown_string hash code t.origin t.leaf t.stamp
@@ -103,7 +112,7 @@ module _ (hash : Hash) (code : Code) (t : Traced) where
   -- the record's row is the release's row, or shows the same chains and siblings
   module _ (lawful : Lawful hash code t.origin) (tall : t.origin.height ≤ 8) where
     each : (k : ℕ) → k < code.count + h → length (shown k) ≡ 16
-    each k lt = (shown-str hash code t.origin lawful.strings tall lawful.level_range.1 t.leaf t.stamp k lt).0
+    each k lt = (shown-str hash code t.origin lawful.strings tall lawful.laws.level_range.1 t.leaf t.stamp k lt).0
 
     pub row_shows : t.row ≡ shown_row hash code t.origin t.leaf t.stamp → ShowsChains × ShowsSiblings
     unfolding shown_row

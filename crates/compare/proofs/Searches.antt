@@ -185,7 +185,7 @@ module _ (hash : Hash) (code : Code) (t : Traced) where
   hidden_found k lt = when-cases _ (hidden_find_of k) (Decides-like _ (λ p. record { chain = lt; below = p }) (λ u. u.below) (Decides-ltb _ _))
 
   -- the places of a level that are searched are those above the leaf or within it
-  near-from : (a b : ℕ) → first_place hash code t a ≤ b → b < first_place hash code t a + width hash code t a → b / 2 ^ (a - h) ≡ t.leaf / 2 ^ (h - a)
+  pub near-from : (a b : ℕ) → first_place hash code t a ≤ b → b < first_place hash code t a + width hash code t a → b / 2 ^ (a - h) ≡ t.leaf / 2 ^ (h - a)
   near-from a b lo hi =
       let q = t.leaf / 2 ^ (h - a) in
       let w = 2 ^ (a - h) in
