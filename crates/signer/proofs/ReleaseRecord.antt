@@ -54,7 +54,5 @@ release-is b₀ b₁ b₂ b₃ b₄ len kind number row size leaf big room e₁ 
     let whole : size ≡ 6 + length (little_endian 2 leaf ++ row) = omega arith in
     is
     ∙ (λ i. (front i ++ row) ++ back i)
-    ∙ ap (λ l. l ++ drop size b₀)
-    (append_assoc (len ++ kind) number row
-    ∙ append_assoc len kind (number ++ row)
-    ∙ (λ i. (e₁ ∙ ap (little_endian 4) whole) i ++ (e₂ i ++ (e₃ i ++ row))))
+    ∙ ap (λ l. l ++ drop size b₀) {y = release_bytes leaf row}
+    (simp append_assoc (λ i. (e₁ ∙ ap (little_endian 4) whole) i ++ (e₂ i ++ (e₃ i ++ row))))
