@@ -1,7 +1,6 @@
 -- The round keys: the first is the key, and each other one follows from the one before. And the rounds, one after the other.
 -- Assumes nothing.
 use Rattle.std.proofs.Common.{◌≡◌, ℕ, zero, suc, ◌+◌, ◌*◌, ◌/◌, ◌%◌, false, cond, eqb, List, length, get_or, sym, refl, ap, ◌∙◌, add-one, arith}
-use native.Mathlib.Numerals.{add-three, add-four}
 use lib.Dec.{eqb-suc-zero}
 use Rattle.std.proofs.lemmas.List.FromFn.{fill_by_all}
 use Rattle.strings.specs.Strings.{xor}
@@ -22,8 +21,7 @@ length-key_word key (suc (suc (suc (suc i)))) = length-xor (key_word key i) _ �
 -- word j, where i and k are four places and one place before it
 new_word : (key : List ℕ) (i j k : ℕ) → i + 4 ≡ j → i + 3 ≡ k → key_word key j ≡ xor (key_word key i) (temp j (key_word key k))
 unfolding key_word
-new_word key i j k p q =
-    ap (key_word key) (sym p ∙ add-four i) ∙ (λ t. xor (key_word key i) (temp (p t) (key_word key ((sym (add-three i) ∙ q) t))))
+new_word key i j k p q = grind arith
 
 -- word j where j is a multiple of 4
 first_word : (key : List ℕ) (i j k n : ℕ) → i + 4 ≡ j → i + 3 ≡ k → j ≡ 4 * n → key_word key j ≡ xor (key_word key i) (xor (sub_word (rot_word (key_word key k))) (rcon n))

@@ -1,7 +1,7 @@
 -- What each side has along a chain, at the bottom of the leaf, beside the way up and in the whole row.
 -- Assumes nothing.
-use Rattle.std.proofs.Common.{◌≡◌, ℕ, ◌+◌, ◌-◌, ◌*◌, ◌/◌, ◌^◌, ◌<◌, ◌≤◌, ltb, List, length, sym, ap, ◌∙◌, subst, ⊎_elim, arith, le-ltb, lt-ltb}
-use Rattle.std.proofs.lemmas.Bool.{cases_lt, cond-true, cond-false}
+use Rattle.std.proofs.Common.{◌≡◌, ℕ, ◌+◌, ◌-◌, ◌*◌, ◌/◌, ◌^◌, ◌<◌, ◌≤◌, ltb, List, length, sym, ap, ◌∙◌, subst, ⊎_elim, arith, lt-ltb, rules}
+use Rattle.std.proofs.lemmas.Bool.{cases_lt, cond-true}
 use Rattle.strings.specs.Strings.{string_at}
 use Rattle.tree.specs.Meaning.{Hash, Code}
 use Rattle.tree.specs.Nodes.{raise, node, one_time}
@@ -68,9 +68,7 @@ module _ (hash : Hash) (code : Code) (t : Traced) where
 
   -- at the place of a chain they are its tops
   pub our-top : (k : ℕ) → k < code.count → leaf_string hash code t.origin t.leaf k ≡ our_chain hash code t k code.top
-  our-top k lt =
-      let all : code.top - 0 ≡ code.top = omega arith in
-      one-time-chain step code.top (λ j. 0) (secret hash t.origin t.leaf) code.count k lt ∙ ap (our_chain hash code t k) all
+  our-top k lt = search rules
 
   pub their-top : (k : ℕ) → k < code.count → their_string k ≡ their_chain hash code t k code.top
   their-top k lt = one-time-chain step code.top (code.digit t.stamp) (string_at t.row) code.count k lt
@@ -104,10 +102,7 @@ module _ (hash : Hash) (code : Code) (t : Traced) where
   shown-chain k lt = cond-true (ltb k code.count) _ _ (lt-ltb k code.count lt)
 
   shown-sibling : (e : ℕ) → shown (code.count + e) ≡ our_node hash code t (h - e) (sibling_of (t.leaf / 2 ^ e))
-  shown-sibling e =
-      let back : code.count + e - code.count ≡ e = omega arith in
-      cond-false (ltb (code.count + e) code.count) _ _ (le-ltb (code.count + e) code.count (omega arith))
-      ∙ ap (λ n. our_node hash code t (h - n) (sibling_of (t.leaf / 2 ^ n))) back
+  shown-sibling e = search rules
 
   -- the record's row is the release's row, or shows the same chains and siblings
   module _ (lawful : Lawful hash code t.origin) (tall : t.origin.height ≤ 8) where

@@ -1,9 +1,7 @@
 -- The places above a leaf and within it, and those beside the way up from it.
 -- Assumes nothing.
-use Rattle.std.proofs.Common.{◌≡◌, ℕ, zero, suc, ◌+◌, ◌-◌, ◌*◌, ◌/◌, ◌%◌, ◌^◌, ◌<◌, ◌≤◌, ◌⊎◌, sym, ap, ◌∙◌, subst, inl, inr, ⊎_elim, mod-lt, arith, pow_pos}
+use Rattle.std.proofs.Common.{◌≡◌, ℕ, zero, suc, ◌+◌, ◌-◌, ◌*◌, ◌/◌, ◌%◌, ◌^◌, ◌<◌, ◌≤◌, ◌⊎◌, sym, ap, ◌∙◌, subst, inl, inr, ⊎_elim, mod-lt, arith, pow_pos, rules}
 use native.Mathlib.Nat.{div-eq_of_lt}
-use lib.Arith.{digits_div}
-use lib.Pow.{split}
 use Rattle.std.proofs.lemmas.Nat.{shr-shr}
 use Rattle.std.proofs.lemmas.Bool.{cases_eq, cases_lt}
 use Rattle.growth.specs.Shown.{sibling_of}
@@ -21,11 +19,7 @@ one-shr n e e' up = shr-shr n 1 e ∙ ap (λ k. n / 2 ^ k) up
 
 -- a child is the left or the right one
 pub child : (P : ℕ → Type 0) (c : ℕ) → P (2 * (c / 2)) → P (2 * (c / 2) + 1) → P c
-child P c left right =
-    ⊎_elim
-    (λ (even : c % 2 ≡ 0). subst P (let e : 2 * (c / 2) ≡ c = omega arith in e) left)
-    (λ (odd : c % 2 ≡ 0 → ⊥). subst P (let e : 2 * (c / 2) + 1 ≡ c = omega arith in e) right)
-    (cases_eq (c % 2) 0)
+child P c left right = search rules
 
 pub sibling-half : (b : ℕ) → sibling_of b / 2 ≡ b / 2
 sibling-half b = omega (arith, sibling-is b)
@@ -73,13 +67,10 @@ module _ (h i : ℕ) where
 
   -- the places of the bottom level, l levels below the leaf
   pub near-bottom : (l k : ℕ) → k < 2 ^ l → Near h i (h + l) (i * 2 ^ l + k)
-  near-bottom l k lt =
-      ap (λ e. (i * 2 ^ l + k) / 2 ^ e) (omega arith) ∙ digits_div i {m = 2 ^ l} {r = k} lt ∙ sym (shr-none i (h - (h + l)) (omega arith))
+  near-bottom l k lt = search rules
 
   bottom-near : (l p : ℕ) → Near h i (h + l) p → i * 2 ^ l + p % 2 ^ l ≡ p
-  bottom-near l p near =
-      let is : i ≡ p / 2 ^ l = sym (shr-none i (h - (h + l)) (omega arith)) ∙ sym near ∙ ap (λ e. p / 2 ^ e) (omega arith) in
-      ap (λ q. q * 2 ^ l + p % 2 ^ l) is ∙ split p l
+  bottom-near l p near = search rules
 
 -- what holds beside the way up and at the bottom, and with two places of the one above them, holds below each near place
 module _ (h i l : ℕ) (P : ℕ → ℕ → Type 0) (siblings : (e : ℕ) → e < h → P (h - e) (sibling_of (i / 2 ^ e))) (bottom : (k : ℕ) → k < 2 ^ l → P (h + l) (i * 2 ^ l + k)) (parent : (a b : ℕ) → a < h + l → Near h i a b → P (a + 1) (2 * b) → P (a + 1) (2 * b + 1) → P a b) where

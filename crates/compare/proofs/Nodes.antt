@@ -1,6 +1,6 @@
 -- The nodes of the two sides: each the parent of two below it, and within the leaf.
 -- Assumes nothing.
-use Rattle.std.proofs.Common.{◌≡◌, ℕ, zero, suc, ◌+◌, ◌-◌, ◌*◌, ◌/◌, ◌%◌, ◌^◌, ◌<◌, ◌≤◌, eqb, leb, List, sym, refl, ap, ◌∙◌, ⊎_elim, mul_assoc, add-mul, add-one, arith}
+use Rattle.std.proofs.Common.{◌≡◌, ℕ, zero, suc, ◌+◌, ◌-◌, ◌*◌, ◌/◌, ◌%◌, ◌^◌, ◌<◌, ◌≤◌, eqb, leb, List, sym, refl, ap, ◌∙◌, ⊎_elim, mul_assoc, add-mul, arith, rules}
 use native.Mathlib.Nat.{div-eq_of_lt}
 use lib.Arith.{digits_lt, digits_div, digits_mod}
 use Rattle.std.proofs.lemmas.Nat.{pow-add, shr-shr}
@@ -35,11 +35,7 @@ module _ (parent : ℕ → List ℕ → List ℕ → List ℕ) (sibling : ℕ �
 
   given-on : (d b : ℕ) → b ≡ i / 2 ^ (d + 1) → given parent sibling leaf h i (d + 1) b ≡ parent (h - (d + 1)) (given parent sibling leaf h i d (2 * b)) (given parent sibling leaf h i d (2 * b + 1))
   unfolding given
-  given-on d b e =
-      let more = add-one d in
-      ap (λ n. given parent sibling leaf h i n b) more
-      ∙ cond-true (eqb b (i / 2 ^ suc d)) _ _ (eq-eqb b (i / 2 ^ suc d) (e ∙ ap (λ n. i / 2 ^ n) more))
-      ∙ ap (λ n. parent (h - n) (given parent sibling leaf h i d (2 * b)) (given parent sibling leaf h i d (2 * b + 1))) (sym more)
+  given-on d b e = search rules
 
   given-beside : (d b : ℕ) → (b ≡ i / 2 ^ d → ⊥) → given parent sibling leaf h i d b ≡ sibling (h - d)
   unfolding given
@@ -68,10 +64,7 @@ module _ (hash : Hash) (code : Code) (t : Traced) where
 
   -- the record's nodes: down to the leaf's level, and within the leaf
   their-up : (d b : ℕ) → d ≤ h → their_node hash code t (h - d) b ≡ given parent (their_sibling hash code t) (their_leaf hash code t) h t.leaf d b
-  their-up d b le =
-      let back : h - (h - d) ≡ d = omega arith in
-      cond-true (leb (h - d) h) _ _ (le-leb (h - d) h (omega arith))
-      ∙ ap (λ n. given parent (their_sibling hash code t) (their_leaf hash code t) h t.leaf n b) back
+  their-up d b le = search rules
 
   their-low : (c b : ℕ) → b / 2 ^ c ≡ t.leaf → their_node hash code t (h + c) b ≡ node parent (their_bottom hash code t) (h + c) (l - c) b
   their-low zero b near =

@@ -1,8 +1,6 @@
 -- The search finds what trace is to find, and nothing else.
 -- Assumes nothing.
-use Rattle.std.proofs.Common.{◌≡◌, ℕ, zero, suc, ◌+◌, ◌-◌, ◌*◌, ◌/◌, ◌^◌, ◌<◌, ◌≤◌, Bool, true, false, ◌⊎◌, Some, None, Decides, Option, sym, refl, ap, ◌∙◌, subst, inl, inr, ⊎_elim, div-mul-le_self, add-one, arith, pow_pos, MatchOption}
-use native.Mathlib.Nat.{lt-div-mul-add}
-use lib.Arith.{digits_div}
+use Rattle.std.proofs.Common.{◌≡◌, ℕ, zero, suc, ◌+◌, ◌-◌, ◌/◌, ◌^◌, ◌<◌, ◌≤◌, Bool, true, false, ◌⊎◌, Some, None, Decides, Option, sym, refl, ◌∙◌, subst, inl, inr, ⊎_elim, add-one, arith, MatchOption, rules}
 use Rattle.std.specs.Option.{option_or}
 use Rattle.std.specs.Bool.{then_some}
 use Rattle.std.proofs.lemmas.Slice.Eq.{bytes_eq-Decides}
@@ -50,11 +48,7 @@ module _ (N : ℕ → Type 0) (Q : ℕ → Find → Type 0) (a : ℕ) where
   LastOf n o = MatchOption o (Nowhere n) (λ x. Last (λ k. Q k x) N a n)
 
   nowhere-more : (n : ℕ) → Nowhere n → N (a + n) → Nowhere (n + 1)
-  nowhere-more n none last k lo hi =
-      ⊎_elim
-      (λ (lt : k < a + n). none k lo lt)
-      (λ (le : a + n ≤ k). let e : a + n ≡ k = omega arith in subst N e last)
-      (cases_lt k (a + n))
+  nowhere-more n none last k lo hi = search rules
 
   first_step : (n : ℕ) (o p : Option Find) → FirstOf n o → MatchOption p (N (a + n)) (Q (a + n)) → FirstOf (n + 1) (option_or o p)
   first_step n (Some x) p s c = record { at = s.at; from = s.from; under = omega arith; here = s.here; before = s.before }
@@ -176,27 +170,17 @@ module _ (hash : Hash) (code : Code) (t : Traced) where
       (Decides-and _ _ (bytes_eq-Decides _ _) (Decides-not _ (Decides-and _ _ (bytes_eq-Decides _ _) (bytes_eq-Decides _ _)))))
 
   chain-found : (k e : ℕ) → k < code.count → code.digit t.stamp k ≤ e → e < code.top → MatchOption (chain_find_at hash code t k e) (ChainBreak hash code t k e → ⊥) (λ x. ChainBreak hash code t k e × (x ≡ chain_find k e))
-  chain-found k e lt shown under =
-      when-cases _ (chain_find k e)
-      (Decides-like _ (λ p. record { chain = lt; shown = shown; under = under; differ = p.1; equal = p.0 }) (λ c. (c.equal, c.differ))
-      (Decides-and _ _ (bytes_eq-Decides _ _) (Decides-not _ (bytes_eq-Decides _ _))))
+  chain-found k e lt shown under = search rules
 
   hidden_found : (k : ℕ) → k < code.count → MatchOption (hidden_find_at hash code t k) (Hidden code t k → ⊥) (λ x. Hidden code t k × (x ≡ hidden_find_of k))
   hidden_found k lt = when-cases _ (hidden_find_of k) (Decides-like _ (λ p. record { chain = lt; below = p }) (λ u. u.below) (Decides-ltb _ _))
 
   -- the places of a level that are searched are those above the leaf or within it
   pub near-from : (a b : ℕ) → first_place hash code t a ≤ b → b < first_place hash code t a + width hash code t a → b / 2 ^ (a - h) ≡ t.leaf / 2 ^ (h - a)
-  near-from a b lo hi =
-      let q = t.leaf / 2 ^ (h - a) in
-      let w = 2 ^ (a - h) in
-      let rest : b ≡ q * w + (b - q * w) = omega arith in
-      ap (λ n. n / w) rest ∙ digits_div q (omega arith)
+  near-from a b lo hi = search rules
 
   near-to : (a b : ℕ) → b / 2 ^ (a - h) ≡ t.leaf / 2 ^ (h - a) → (first_place hash code t a ≤ b) × (b < first_place hash code t a + width hash code t a)
-  near-to a b near =
-      let w = 2 ^ (a - h) in
-      let is = ap (λ q. q * w) near in
-      (omega (arith, div-mul-le_self b w), omega (arith, lt-div-mul-add {a = b} {b = w} (pow_pos (a - h))))
+  near-to a b near = search rules
 
   -- in one row, which is a level or a chain: the lowest position of a level, the greatest height of a chain
   in-level : (a : ℕ) → a < h + code.levels → RowOf (NodeBreak hash code t) node_find ◌≤◌ a (level_search hash code t a)

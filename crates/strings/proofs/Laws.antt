@@ -7,7 +7,7 @@ use lib.Arith.{mod-mul}
 use Rattle.std.specs.List.{range_with_len}
 use Rattle.std.specs.Simd.{first_chunks}
 use Rattle.std.proofs.lemmas.List.Edits.{fill_by_more}
-use Rattle.std.proofs.lemmas.List.{length-set, places, same_lists, get_or-set_other, take-append-drop, length-append, take_at, drop_at, drop-drop, same_from_push, drop-replicate, take-replicate}
+use Rattle.std.proofs.lemmas.List.{places, same_lists, take-append-drop, length-append, take_at, drop_at, drop-drop, same_from_push, drop-replicate, take-replicate}
 use Rattle.std.proofs.ByRecursion.{All-take, All-drop, All-map, All-from_get_or}
 use Rattle.std.proofs.lemmas.List.FromFn.{length-map-range_with_len, map-range_with_len_more, fill_by_all}
 use Rattle.strings.specs.Strings.{Bytes, Str, zero_string, xor, little_endian, numeral, string_at, put_string}
@@ -116,11 +116,7 @@ pub edited-none : (f : ℕ → ℕ) (old : List ℕ) → Edited f old old 0
 edited-none f old = (refl, λ k h. absurd (omega arith), λ k h. refl)
 
 pub edited-more : (f : ℕ → ℕ) (old new : List ℕ) (j v : ℕ) → j < length old → v ≡ f j → Edited f old new j → Edited f old (set new j v) (j + 1)
-edited-more f old new j v h e s = (
-  length-set new j v ∙ s.0,
-  filled_more f new j v (omega arith) e s.1,
-  λ k g. get_or-set_other new j k v 0 (λ q. absurd (omega arith)) ∙ s.2 k (omega arith),
-)
+edited-more f old new j v h e s = search rules
 
 pub edited-all : (f : ℕ → ℕ) (old new : List ℕ) (n j : ℕ) → length old ≡ n → n ≤ j → Edited f old new j → new ≡ map f (range_with_len 0 n)
 edited-all f old new n j e h s = fill_by_all f new n 0 (s.0 ∙ e) (λ k g. s.1 k (omega arith))

@@ -1,9 +1,8 @@
 -- The laws of chains, nodes and paths.
 -- Assumes nothing.
-use Rattle.std.proofs.Common.{◌≡◌, ℕ, zero, suc, ◌+◌, ◌-◌, ◌*◌, ◌/◌, ◌%◌, ◌^◌, ◌<◌, ◌≤◌, cond, eqb, List, replicate, sym, refl, ap, ◌∙◌, ⊎_elim, mul_assoc, mul_comm, add-mul, one-mul, add-one, arith, pow_mono, le-ltb, lt-ltb}
+use Rattle.std.proofs.Common.{◌≡◌, ℕ, zero, suc, ◌+◌, ◌-◌, ◌*◌, ◌/◌, ◌%◌, ◌^◌, ◌<◌, ◌≤◌, cond, List, replicate, sym, refl, ap, ◌∙◌, mul_assoc, mul_comm, add-mul, one-mul, add-one, arith, rules, pow_mono, le-ltb, lt-ltb}
 use native.Mathlib.Nat.{pow-succ'}
 use Rattle.std.proofs.lemmas.Grind.{pow_more}
-use Rattle.std.proofs.lemmas.Bool.{cases_eq, cases_lt, cond-true, cond-false, eq-eqb, ne_eqb}
 use Rattle.strings.specs.Strings.{string_at, zero_string}
 use Rattle.strings.proofs.Laws.{string_at-zeros}
 use Rattle.tree.specs.Nodes.{raise, node, above, climb, one_time}
@@ -41,15 +40,7 @@ node-moved parent f g a (suc d) b c same =
 
 -- a node of a level and the string beside it have the parent of both above them
 pub above-both : (parent : ℕ → List ℕ → List ℕ → List ℕ) (f : ℕ → List ℕ) (a b : ℕ) (sibling : List ℕ) → (b % 2 ≡ 0 → sibling ≡ f (2 * (b / 2) + 1)) → ((b % 2 ≡ 0 → ⊥) → sibling ≡ f (2 * (b / 2))) → above parent a b (f b) sibling ≡ parent a (f (2 * (b / 2))) (f (2 * (b / 2) + 1))
-above-both parent f a b sibling right left =
-    ⊎_elim
-    (λ (even : b % 2 ≡ 0).
-    let is : b ≡ 2 * (b / 2) = omega arith in
-    cond-true (eqb (b % 2) 0) _ _ (eq-eqb (b % 2) 0 even) ∙ (λ i. parent a (f (is i)) (right even i)))
-    (λ (odd : b % 2 ≡ 0 → ⊥).
-    let is : b ≡ 2 * (b / 2) + 1 = omega arith in
-    cond-false (eqb (b % 2) 0) _ _ (ne_eqb (b % 2) 0 odd) ∙ (λ i. parent a (left odd i) (f (is i))))
-    (cases_eq (b % 2) 0)
+above-both parent f a b sibling right left = search rules
 
 pub climb-root : (parent : ℕ → List ℕ → List ℕ → List ℕ) (sibling : ℕ → List ℕ) (b : ℕ) (s : List ℕ) → climb parent sibling 0 b s ≡ s
 unfolding climb
@@ -73,15 +64,7 @@ module _ (step : List ℕ → List ℕ) (top : ℕ) (digit : ℕ → ℕ) (shown
 
   -- a row with one chain more
   pub one-time-more : (n k : ℕ) (row after : List ℕ) → ((i : ℕ) → i < n → string_at row i ≡ one_time step k top digit shown i) → string_at after k ≡ raise step (top - digit k) (shown k) → ((i : ℕ) → (i ≡ k → ⊥) → string_at after i ≡ string_at row i) → (i : ℕ) → i < n → string_at after i ≡ one_time step (k + 1) top digit shown i
-  one-time-more n k row after inv here others i h =
-      ⊎_elim
-      (λ (lt : i < k). others i (omega arith) ∙ inv i h ∙ one-time-chain k i lt ∙ sym (one-time-chain (k + 1) i (omega arith)))
-      (λ (le : k ≤ i).
-      ⊎_elim
-      (λ (more : k < i). others i (omega arith) ∙ inv i h ∙ one-time-past k i le ∙ sym (one-time-past (k + 1) i (omega arith)))
-      (λ (less : i ≤ k). let e : i ≡ k = omega arith in ap (string_at after) e ∙ here ∙ ap (λ j. raise step (top - digit j) (shown j)) (sym e) ∙ sym (one-time-chain (k + 1) i (omega arith)))
-      (cases_lt k i))
-      (cases_lt i k)
+  one-time-more n k row after inv here others i h = search rules
 
 -- rows of nodes, level by level
 module _ (parent : ℕ → List ℕ → List ℕ → List ℕ) (bottom : ℕ → List ℕ) where

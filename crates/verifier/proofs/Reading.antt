@@ -1,6 +1,6 @@
 -- Bytes are read as a record exactly when writing that record yields them.
 -- Assumes nothing.
-use Rattle.std.proofs.Common.{◌≡◌, ℕ, ◌+◌, ◌-◌, ◌*◌, ◌^◌, ◌<◌, ◌≤◌, true, List, ◌++◌, length, take, drop, Ok, Result, sym, refl, ap, ◌∙◌, subst, le_trans, arith, pow_mono}
+use Rattle.std.proofs.Common.{◌≡◌, ℕ, ◌+◌, ◌-◌, ◌*◌, ◌^◌, ◌<◌, ◌≤◌, true, List, ◌++◌, length, take, drop, Ok, Result, sym, refl, ap, ◌∙◌, subst, le_trans, arith, rules, pow_mono}
 use Rattle.std.proofs.lemmas.Grind.{common_steps}
 use Rattle.std.proofs.lemmas.List.{places, same_lists, length-append, length-take, length-take-le, length-drop, take_all, take_at, drop_at, drop-drop}
 use Rattle.verifier.specs.declared.refusal.Refusal.{Refusal}
@@ -10,7 +10,7 @@ use Rattle.verifier.specs.Keys.{Key, Shown}
 use Rattle.verifier.specs.Reads.{KeyParts, ReadsKeys, ReleaseParts, ReadsReleases}
 use Rattle.verifier.specs.Records.{framed, key_bytes, release_bytes, height_of, hash_key_of, masks_of, root_of, leaf_of, row_of}
 use Rattle.verifier.specs.Rules.{open_rule, suited, read_rule}
-use Rattle.verifier.proofs.Facts.{Headed, Opens, open-from, open-to, suited-to, read-from, read-to}
+use Rattle.verifier.proofs.Facts.{Headed, Opens, open-from, open-to, read-to}
 
 -- the six header bytes are those that writing puts before the body
 pub frame : (kind : ℕ) (bytes : List ℕ) → Bytes bytes → Headed kind bytes → bytes ≡ framed kind (drop 6 bytes)
@@ -97,17 +97,7 @@ leaf-more bytes h b = grind (arith, common_steps)
 
 -- what writing a release yields is read as that release
 pub written-reads : (hash : ℕ) (code : Code) (key : Key) (leaf : ℕ) (row : List ℕ) → code.count ≤ 256 → suited hash code.number code.levels key ≡ true → ReleaseParts code.count key.height leaf row → read_rule hash code key (release_bytes leaf row) ≡ Ok (record { leaf = leaf; row = row })
-written-reads hash code key leaf row few suits parts =
-    let opened = suited-to hash code.number code.levels key suits in
-    let tall = opened.0.tall in
-    let height = opened.1 in
-    let small : 2 ^ key.height ≤ 256 = pow_mono {j = 8} (omega arith) in
-    let below = parts.numbered in
-    let filled = parts.filled in
-    let made = release_bytes leaf row in
-    let number : leaf_of made ≡ leaf = omega arith in
-    read-from hash code key made (record { headed = framed-headed 2 (little_endian 2 leaf ++ row) (omega arith) (omega arith) (omega arith); suits = suits; laid = omega arith; below = omega arith })
-    ∙ ap {B = Result Shown Refusal} (λ n. Ok (record { leaf = n; row = row })) number
+written-reads hash code key leaf row few suits parts = search rules
 
 pub reads-releases : (hash : ℕ) (code : Code) (key : Key) (bytes : List ℕ) → code.count ≤ 256 → Bytes bytes → suited hash code.number code.levels key ≡ true → ReadsReleases code.count key.height bytes (read_rule hash code key bytes)
 reads-releases hash code key bytes few b suits =
