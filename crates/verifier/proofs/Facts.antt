@@ -66,9 +66,6 @@ pub record Releases (hash : ℕ) (code : Code) (key : Key) (bytes : List ℕ) : 
   pub laid : length bytes ≡ release_length code.count key.height
   pub below : leaf_of bytes < 2 ^ key.height
 
-pub read-from : (hash : ℕ) (code : Code) (key : Key) (bytes : List ℕ) → Releases hash code key bytes → read_rule hash code key bytes ≡ Ok (record { leaf = leaf_of bytes; row = row_of bytes })
-read-from hash code key bytes h = grind (arith, nat_tests)
-
 pub read-to : (hash : ℕ) (code : Code) (key : Key) (bytes : List ℕ) (shown : Shown) → read_rule hash code key bytes ≡ Ok shown → Releases hash code key bytes × (shown ≡ record { leaf = leaf_of bytes; row = row_of bytes })
 read-to hash code key bytes shown p = grind (arith, nat_tests)
 

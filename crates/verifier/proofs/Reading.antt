@@ -16,10 +16,6 @@ use Rattle.verifier.proofs.Facts.{Headed, Opens, open-from, open-to, read-to}
 pub frame : (kind : ℕ) (bytes : List ℕ) → Bytes bytes → Headed kind bytes → bytes ≡ framed kind (drop 6 bytes)
 frame kind bytes b h = grind (arith, common_steps)
 
--- what writing puts before the body reads as its length and kind
-pub framed-headed : (kind : ℕ) (body : List ℕ) → kind < 65536 → 4 ≤ length body → 6 + length body < 2 ^ 32 → Headed kind (framed kind body)
-framed-headed kind body small long fits = grind arith
-
 -- what follows place a, in three pieces
 in-three : (a b c x y z : ℕ) (s : List ℕ) → a + x ≡ b → b + y ≡ c → length s ≤ c + z → drop a s ≡ take x (drop a s) ++ (take y (drop b s) ++ take z (drop c s))
 in-three a b c x y z s e f h = same_lists _ _ (simp (length-append, length-drop, length-take) (omega arith)) (λ k d lt. grind (arith, places))
