@@ -1,15 +1,14 @@
 -- The round keys: the first is the key, and each other one follows from the one before. And the rounds, one after the other.
 -- Assumes nothing.
-use Rattle.std.proofs.Common.{◌≡◌, ℕ, zero, suc, ◌+◌, ◌*◌, ◌/◌, ◌%◌, false, cond, eqb, List, length, sym, refl, ap, ◌∙◌, add-one, arith}
-use native.Mathlib.Numerals.{add-three, add-four}
+use Rattle.std.proofs.Common.{◌≡◌, ℕ, zero, suc, ◌+◌, ◌*◌, ◌/◌, ◌%◌, false, cond, eqb, List, length, get_or, sym, refl, ap, ◌∙◌, add-one, arith}
 use lib.Dec.{eqb-suc-zero}
+use Rattle.std.proofs.lemmas.List.FromFn.{fill_by_all}
 use Rattle.strings.specs.Strings.{xor}
 use Rattle.strings.proofs.Laws.{length-xor}
 use Rattle.aes128.specs.State.{full_round, add_round_key}
 use Rattle.aes128.specs.Schedule.{rot_word, sub_word, rcon, temp, key_word, key_of_round}
 use Rattle.aes128.specs.Cipher.{rounds}
 use Rattle.aes128.specs.Pieces.{columns, chained, next_key}
-use Rattle.aes128.proofs.Columns.{as_bytes}
 
 length-key_word : (key : List ℕ) (i : ℕ) → length (key_word key i) ≡ 4
 unfolding key_word
@@ -22,8 +21,7 @@ length-key_word key (suc (suc (suc (suc i)))) = length-xor (key_word key i) _ �
 -- word j, where i and k are four places and one place before it
 new_word : (key : List ℕ) (i j k : ℕ) → i + 4 ≡ j → i + 3 ≡ k → key_word key j ≡ xor (key_word key i) (temp j (key_word key k))
 unfolding key_word
-new_word key i j k p q =
-    ap (key_word key) (sym p ∙ add-four i) ∙ (λ t. xor (key_word key i) (temp (p t) (key_word key ((sym (add-three i) ∙ q) t))))
+new_word key i j k p q = grind arith
 
 -- word j where j is a multiple of 4
 first_word : (key : List ℕ) (i j k n : ℕ) → i + 4 ≡ j → i + 3 ≡ k → j ≡ 4 * n → key_word key j ≡ xor (key_word key i) (xor (sub_word (rot_word (key_word key k))) (rcon n))
@@ -42,13 +40,13 @@ later-word key i j k m p q e =
 
 pub key_of_round-none : (key : List ℕ) → length key ≡ 16 → key_of_round key 0 ≡ key
 unfolding key_of_round key_word
-key_of_round-none key e = as_bytes 16 key e
+key_of_round-none key e = sym (fill_by_all (λ k. get_or key k 0) key 16 0 e (λ k h. refl))
 
 key_of_round-more : (key : List ℕ) (n : ℕ) → key_of_round key (n + 1) ≡ next_key (key_of_round key n) (n + 1)
 unfolding key_of_round next_key
 key_of_round-more key n =
     let w : ℕ → List ℕ = λ c. key_word key (4 * n + c) in
-    let old : (c : ℕ) → ◌≡◌ {A = List ℕ} _ (w c) = λ c. as_bytes 4 (w c) (length-key_word key (4 * n + c)) in
+    let old : (c : ℕ) → ◌≡◌ {A = List ℕ} _ (w c) = λ c. sym (fill_by_all (λ k. get_or (w c) k 0) (w c) 4 0 (length-key_word key (4 * n + c)) (λ k h. refl)) in
     let e₀ = first_word key (4 * n + 0) (4 * (n + 1) + 0) (4 * n + 3) (n + 1) (omega arith) (omega arith) (omega arith) in
     let e₁ = later-word key (4 * n + 1) (4 * (n + 1) + 1) (4 * (n + 1) + 0) 0 (omega arith) (omega arith) (omega arith) ∙ ap (xor (w 1)) e₀ in
     let e₂ = later-word key (4 * n + 2) (4 * (n + 1) + 2) (4 * (n + 1) + 1) 1 (omega arith) (omega arith) (omega arith) ∙ ap (xor (w 2)) e₁ in

@@ -1,18 +1,19 @@
 -- What each side has along a chain, at the bottom of the leaf, beside the way up and in the whole row.
 -- Assumes nothing.
-use Rattle.std.proofs.Common.{◌≡◌, ℕ, ◌+◌, ◌-◌, ◌*◌, ◌/◌, ◌^◌, ◌<◌, ◌≤◌, ltb, List, length, sym, ap, ◌∙◌, subst, ⊎_elim, arith, le-ltb, lt-ltb}
-use Rattle.std.proofs.lemmas.Bool.{cases_lt, cond-true, cond-false}
+use Rattle.std.proofs.Common.{◌≡◌, ℕ, ◌+◌, ◌-◌, ◌*◌, ◌/◌, ◌^◌, ◌<◌, ◌≤◌, ltb, List, length, sym, ap, ◌∙◌, subst, ⊎_elim, arith, lt-ltb, rules}
+use Rattle.std.proofs.lemmas.Bool.{cases_lt, cond-true}
 use Rattle.strings.specs.Strings.{string_at}
 use Rattle.tree.specs.Meaning.{Hash, Code}
 use Rattle.tree.specs.Nodes.{raise, node, one_time}
 use Rattle.tree.proofs.Laws.{raise-none, raise-more, node-bottom, one-time-chain}
 use Rattle.growth.specs.Grown.{secret, leaf_string, parent_at}
 use Rattle.growth.specs.Shown.{sibling_of, shown_string, shown_row}
+use Rattle.growth.proofs.Trees.{node-up}
 use Rattle.growth.proofs.Strings.{row_at, row-long, shown-str}
 use Rattle.compare.specs.Sides.{Traced, our_chain, their_chain, our_node, their_node}
 use Rattle.compare.proofs.Lawful.{Lawful}
-use Rattle.compare.proofs.Near.{sibling-other}
-use Rattle.compare.proofs.Nodes.{our-inner, their-inner, their-beside}
+use Rattle.compare.proofs.Near.{Near, sibling-other, below-near}
+use Rattle.compare.proofs.Nodes.{our-inner, their-inner, their-beside, their-parent}
 use Rattle.compare.proofs.Rows.{same_rows}
 
 module _ (hash : Hash) (code : Code) (t : Traced) where
@@ -67,9 +68,7 @@ module _ (hash : Hash) (code : Code) (t : Traced) where
 
   -- at the place of a chain they are its tops
   pub our-top : (k : ℕ) → k < code.count → leaf_string hash code t.origin t.leaf k ≡ our_chain hash code t k code.top
-  our-top k lt =
-      let all : code.top - 0 ≡ code.top = omega arith in
-      one-time-chain step code.top (λ j. 0) (secret hash t.origin t.leaf) code.count k lt ∙ ap (our_chain hash code t k) all
+  our-top k lt = search rules
 
   pub their-top : (k : ℕ) → k < code.count → their_string k ≡ their_chain hash code t k code.top
   their-top k lt = one-time-chain step code.top (code.digit t.stamp) (string_at t.row) code.count k lt
@@ -80,6 +79,14 @@ module _ (hash : Hash) (code : Code) (t : Traced) where
       let back : h - (h - e) ≡ e = omega arith in
       their-beside hash code t e (sibling_of (t.leaf / 2 ^ e)) (omega arith) (sibling-other (t.leaf / 2 ^ e))
       ∙ ap (λ n. string_at t.row (code.count + n)) back
+
+  -- sides that have one node beside the way up, and at each place l levels below the leaf, have one below each node above those
+  pub same-below : (l : ℕ) → l ≤ code.levels → ((e : ℕ) → e < h → our_node hash code t (h - e) (sibling_of (t.leaf / 2 ^ e)) ≡ string_at t.row (code.count + e)) → ((k : ℕ) → k < 2 ^ l → SameNode (h + l) (t.leaf * 2 ^ l + k)) → (a b : ℕ) → a < h + l → Near h t.leaf a b → SameNode (a + 1) (2 * b) × SameNode (a + 1) (2 * b + 1)
+  same-below l within siblings level a b inner near =
+      below-near h t.leaf l SameNode (λ e lt. siblings e lt ∙ sym (their-sibling e lt)) level
+      (λ a b inner near left right.
+      node-up hash code t.origin a b (omega arith) ∙ (λ i. parent_at hash t.origin a (left i) (right i)) ∙ sym (their-parent hash code t a b (omega arith) near))
+      a b inner near
 
   -- what a release of the leaf shows for the stamp
   abbrev shown : ℕ → List ℕ
@@ -95,15 +102,12 @@ module _ (hash : Hash) (code : Code) (t : Traced) where
   shown-chain k lt = cond-true (ltb k code.count) _ _ (lt-ltb k code.count lt)
 
   shown-sibling : (e : ℕ) → shown (code.count + e) ≡ our_node hash code t (h - e) (sibling_of (t.leaf / 2 ^ e))
-  shown-sibling e =
-      let back : code.count + e - code.count ≡ e = omega arith in
-      cond-false (ltb (code.count + e) code.count) _ _ (le-ltb (code.count + e) code.count (omega arith))
-      ∙ ap (λ n. our_node hash code t (h - n) (sibling_of (t.leaf / 2 ^ n))) back
+  shown-sibling e = search rules
 
   -- the record's row is the release's row, or shows the same chains and siblings
   module _ (lawful : Lawful hash code t.origin) (tall : t.origin.height ≤ 8) where
     each : (k : ℕ) → k < code.count + h → length (shown k) ≡ 16
-    each k lt = (shown-str hash code t.origin lawful.strings tall lawful.level_range.1 t.leaf t.stamp k lt).0
+    each k lt = (shown-str hash code t.origin lawful.strings tall lawful.laws.level_range.1 t.leaf t.stamp k lt).0
 
     pub row_shows : t.row ≡ shown_row hash code t.origin t.leaf t.stamp → ShowsChains × ShowsSiblings
     unfolding shown_row

@@ -1,11 +1,11 @@
 -- A node on the way up and its sibling, as the children of their parent.
 -- Assumes nothing.
-use Rattle.std.proofs.Common.{◌≡◌, ℕ, ◌+◌, ◌-◌, ◌*◌, ◌/◌, ◌%◌, ◌^◌, ◌<◌, cond, eqb, List, sym, ap, ◌∙◌, ⊎_elim, arith}
-use Rattle.std.proofs.lemmas.Bool.{cases_eq, cond-true, cond-false, eq-eqb, ne_eqb}
+use Rattle.std.proofs.Common.{◌≡◌, ℕ, ◌+◌, ◌-◌, ◌*◌, ◌/◌, ◌%◌, ◌^◌, ◌<◌, cond, eqb, List, sym, ap, ◌∙◌, arith}
+use Rattle.std.proofs.lemmas.Bool.{cond_both, eqb-true, eqb-false}
 use Rattle.std.specs.Option.{option_or}
 use Rattle.tree.specs.Meaning.{Hash, Code}
 use Rattle.growth.specs.Shown.{sibling_of}
-use Rattle.growth.proofs.Paths.{sibling-even, sibling-odd}
+use Rattle.growth.proofs.Paths.{sibling-is}
 use Rattle.compare.specs.Search.{first_from, node_find_at, level_search}
 use Rattle.compare.specs.Sides.{Traced}
 use Rattle.compare.proofs.Firsts.{first-none, first_more}
@@ -13,18 +13,10 @@ use Rattle.compare.proofs.Firsts.{first-none, first_more}
 -- of a level's nodes, the one at a position and its sibling are the left and the right child of one parent
 module _ (node : ℕ → List ℕ) (position : ℕ) (at sibling : List ℕ) (here : at ≡ node position) (beside : sibling ≡ node (sibling_of position)) where
   pub left-child : cond (eqb (position % 2) 0) at sibling ≡ node (2 * (position / 2))
-  left-child =
-      ⊎_elim
-      (λ (even : position % 2 ≡ 0). cond-true (eqb (position % 2) 0) at sibling (eq-eqb (position % 2) 0 even) ∙ here ∙ ap node (omega arith))
-      (λ (odd : position % 2 ≡ 0 → ⊥). cond-false (eqb (position % 2) 0) at sibling (ne_eqb (position % 2) 0 odd) ∙ beside ∙ ap node (sibling-odd position odd ∙ omega arith))
-      (cases_eq (position % 2) 0)
+  left-child = cond_both (eqb (position % 2) 0) at sibling (λ s. s ≡ node (2 * (position / 2))) (λ e. here ∙ ap node (omega (arith, eqb-true _ _ e))) (λ e. beside ∙ ap node (omega (arith, sibling-is position, eqb-false _ _ e)))
 
   pub right_child : cond (eqb (position % 2) 0) sibling at ≡ node (2 * (position / 2) + 1)
-  right_child =
-      ⊎_elim
-      (λ (even : position % 2 ≡ 0). cond-true (eqb (position % 2) 0) sibling at (eq-eqb (position % 2) 0 even) ∙ beside ∙ ap node (sibling-even position even ∙ omega arith))
-      (λ (odd : position % 2 ≡ 0 → ⊥). cond-false (eqb (position % 2) 0) sibling at (ne_eqb (position % 2) 0 odd) ∙ here ∙ ap node (omega arith))
-      (cases_eq (position % 2) 0)
+  right_child = cond_both (eqb (position % 2) 0) sibling at (λ s. s ≡ node (2 * (position / 2) + 1)) (λ e. beside ∙ ap node (omega (arith, sibling-is position, eqb-true _ _ e))) (λ e. here ∙ ap node (omega (arith, eqb-false _ _ e)))
 
 module _ (hash : Hash) (code : Code) (t : Traced) where
   -- above the leaf a level has one node on the way up

@@ -6,9 +6,11 @@ use Rattle.tree.specs.Meaning.{Hash, Code}
 use Rattle.compare.specs.Sides.{Traced, our_chain, their_chain, our_node, their_node, left_input, right_input}
 use Rattle.compare.specs.Found.{NodeBreak, ChainBreak, node_report, chain_report, hidden_report}
 use Rattle.compare.proofs.Lawful.{Lawful}
-use Rattle.compare.proofs.Nodes.{our-parent, their-parent}
+use Rattle.compare.proofs.Nodes.{their-parent}
 use Rattle.compare.proofs.Rows.{four-strings, four-halves}
-use Rattle.compare.proofs.Strings.{zero-str, our-chain-str, their-chain-str, our-inputs-str, their-inputs-str}
+use Rattle.growth.proofs.Strings.{zero-str}
+use Rattle.growth.proofs.Trees.{node-up}
+use Rattle.compare.proofs.Strings.{our-chain-str, their-chain-str, our-inputs-str, their-inputs-str}
 
 module _ (hash : Hash) (code : Code) (t : Traced) where
   abbrev key : List ℕ
@@ -16,7 +18,7 @@ module _ (hash : Hash) (code : Code) (t : Traced) where
 
   -- pair takes the inputs of both sides to one string
   pub node-break-means : (a b : ℕ) → NodeBreak hash code t a b → hash.pair key (left_input hash code t (our_node hash code t) a b) (right_input hash code t (our_node hash code t) a b) ≡ hash.pair key (left_input hash code t (their_node hash code t) a b) (right_input hash code t (their_node hash code t) a b)
-  node-break-means a b break = sym (our-parent hash code t a b break.inner) ∙ break.equal ∙ their-parent hash code t a b break.inner break.near
+  node-break-means a b break = sym (node-up hash code t.origin a b break.inner) ∙ break.equal ∙ their-parent hash code t a b break.inner break.near
 
   module _ (lawful : Lawful hash code t.origin) (tall : t.origin.height ≤ 8) where
     -- the report of a string that was not revealed: the string

@@ -1,14 +1,15 @@
 -- The nodes within the leaf, over rows that hold its one-time strings on both sides.
 -- Assumes nothing.
-use Rattle.std.proofs.Common.{◌≡◌, ℕ, ◌+◌, ◌-◌, ◌*◌, ◌/◌, ◌^◌, ◌<◌, ◌≤◌, List, Option, sym, ap, ◌∙◌, mul_assoc, mul_comm, add-one, arith}
-use native.Mathlib.Nat.{pow-succ'}
+use Rattle.std.proofs.Common.{◌≡◌, ℕ, ◌+◌, ◌-◌, ◌*◌, ◌/◌, ◌^◌, ◌<◌, ◌≤◌, List, Option, sym, ap, ◌∙◌, mul_assoc, arith}
 use lib.Arith.{digits_lt}
 use Rattle.std.proofs.lemmas.Nat.{pow-add}
+use Rattle.std.proofs.lemmas.Grind.{pow_more}
 use Rattle.std.specs.Option.{option_or}
 use Rattle.tree.specs.Meaning.{Hash, Code}
 use Rattle.tree.specs.Nodes.{node}
 use Rattle.tree.proofs.Laws.{node-moved}
 use Rattle.growth.specs.Grown.{leaf_string, parent_at}
+use Rattle.growth.proofs.Paths.{shr-none}
 use Rattle.compare.specs.Search.{first_from, child_find, depth_search, node_find_at, level_search, node_search}
 use Rattle.compare.specs.Sides.{Traced, our_node, their_node, their_one_time}
 use Rattle.compare.specs.declared.verdict.Find.{Find}
@@ -19,9 +20,6 @@ use Rattle.compare.proofs.Nodes.{our-inner, their-inner}
 same-node : (parent : ℕ → List ℕ → List ℕ → List ℕ) (f g : ℕ → List ℕ) (a c d q : ℕ) → ((k : ℕ) → k < 2 ^ (c + d) → f k ≡ g k) → q < 2 ^ c → node parent f a d q ≡ node parent g a d q
 same-node parent f g a c d q same lt =
     node-moved parent f g a d q q (λ k below. same (q * 2 ^ d + k) (omega (arith, digits_lt {m = 2 ^ c} {c = 2 ^ d} lt below, pow-add 2 c d)))
-
-twice-pow : (c : ℕ) → 2 ^ (c + 1) ≡ 2 * 2 ^ c
-twice-pow c = ap (λ n. 2 ^ n) (add-one c) ∙ pow-succ' 2 c
 
 module _ (hash : Hash) (code : Code) (t : Traced) (ours theirs : ℕ → List ℕ) (our-row : (k : ℕ) → k < 2 ^ code.levels → ours k ≡ leaf_string hash code t.origin t.leaf k) (their-row : (k : ℕ) → k < 2 ^ code.levels → theirs k ≡ their_one_time hash code t k) where
   abbrev h : ℕ
@@ -49,11 +47,11 @@ module _ (hash : Hash) (code : Code) (t : Traced) (ours theirs : ℕ → List �
   depth_is : (c : ℕ) → c < l → depth c ≡ level_search hash code t (h + c)
   depth_is c lt =
       let place : t.leaf / 2 ^ (h - (h + c)) * 2 ^ (h + c - h) ≡ t.leaf * 2 ^ c =
-      (λ i. t.leaf / 2 ^ (let e : h - (h + c) ≡ 0 = omega arith in e i) * 2 ^ (let e : h + c - h ≡ c = omega arith in e i)) ∙ ap (λ n. n * 2 ^ c) (omega arith) in
+      λ i. shr-none t.leaf (h - (h + c)) (omega arith) i * 2 ^ (let e : h + c - h ≡ c = omega arith in e i) in
       let wide : 2 ^ (h + c - h) ≡ 2 ^ c = ap (λ n. 2 ^ n) (omega arith) in
       let level : h + (c + 1) ≡ h + c + 1 = omega arith in
-      let twice = twice-pow c in
-      let child : (p q : ℕ) → q ≡ 2 * p → t.leaf * 2 ^ (c + 1) + q ≡ 2 * (t.leaf * 2 ^ c + p) = λ p q e. omega (arith, ap (λ n. t.leaf * n) twice, mul_assoc t.leaf 2 (2 ^ c), ap (λ n. n * 2 ^ c) (mul_comm t.leaf 2), mul_assoc 2 t.leaf (2 ^ c)) in
+      let twice = pow_more 2 c in
+      let child : (p q : ℕ) → q ≡ 2 * p → t.leaf * 2 ^ (c + 1) + q ≡ 2 * (t.leaf * 2 ^ c + p) = λ p q e. omega (arith, ap (λ n. t.leaf * n) twice, mul_assoc t.leaf (2 ^ c) 2) in
       let ours_at : (p q n : ℕ) → q < 2 ^ (c + 1) → t.leaf * 2 ^ (c + 1) + q ≡ n → node (parent_at hash t.origin) ours (h + c + 1) (l - (c + 1)) q ≡ our_node hash code t (h + c + 1) n =
       λ p q n below e. ap (λ a. node (parent_at hash t.origin) ours a (l - (c + 1)) q) (sym level) ∙ our-node (c + 1) q (omega arith) below ∙ (λ i. our_node hash code t (level i) (e i)) in
       let theirs-at : (p q n : ℕ) → q < 2 ^ (c + 1) → t.leaf * 2 ^ (c + 1) + q ≡ n → node (parent_at hash t.origin) theirs (h + c + 1) (l - (c + 1)) q ≡ their_node hash code t (h + c + 1) n =

@@ -1,20 +1,15 @@
 -- The places above a leaf and within it, and those beside the way up from it.
 -- Assumes nothing.
-use Rattle.std.proofs.Common.{◌≡◌, ℕ, zero, suc, ◌+◌, ◌-◌, ◌*◌, ◌/◌, ◌%◌, ◌^◌, ◌<◌, ◌≤◌, ◌⊎◌, sym, ap, ◌∙◌, subst, inl, inr, ⊎_elim, mod-lt, arith, pow_pos}
+use Rattle.std.proofs.Common.{◌≡◌, ℕ, zero, suc, ◌+◌, ◌-◌, ◌*◌, ◌/◌, ◌%◌, ◌^◌, ◌<◌, ◌≤◌, ◌⊎◌, sym, ap, ◌∙◌, subst, inl, inr, ⊎_elim, mod-lt, arith, pow_pos, rules}
 use native.Mathlib.Nat.{div-eq_of_lt}
-use lib.Arith.{digits_div}
-use lib.Pow.{split}
 use Rattle.std.proofs.lemmas.Nat.{shr-shr}
 use Rattle.std.proofs.lemmas.Bool.{cases_eq, cases_lt}
 use Rattle.growth.specs.Shown.{sibling_of}
-use Rattle.growth.proofs.Paths.{sibling-even, sibling-odd}
+use Rattle.growth.proofs.Paths.{shr-none, sibling-is}
 
 -- of a tree of height h, position b of level a is above leaf i or within it
 abbrev pub Near : ℕ → ℕ → ℕ → ℕ → Type 0
 Near h i a b = b / 2 ^ (a - h) ≡ i / 2 ^ (h - a)
-
-shr-none : (n e : ℕ) → e ≡ 0 → n / 2 ^ e ≡ n
-shr-none n e z = ap (λ k. n / 2 ^ k) z ∙ omega arith
 
 shr_one : (n e e' : ℕ) → e + 1 ≡ e' → n / 2 ^ e / 2 ≡ n / 2 ^ e'
 shr_one n e e' up = shr-shr n e 1 ∙ ap (λ k. n / 2 ^ k) up
@@ -24,19 +19,7 @@ one-shr n e e' up = shr-shr n 1 e ∙ ap (λ k. n / 2 ^ k) up
 
 -- a child is the left or the right one
 pub child : (P : ℕ → Type 0) (c : ℕ) → P (2 * (c / 2)) → P (2 * (c / 2) + 1) → P c
-child P c left right =
-    ⊎_elim
-    (λ (even : c % 2 ≡ 0). subst P (let e : 2 * (c / 2) ≡ c = omega arith in e) left)
-    (λ (odd : c % 2 ≡ 0 → ⊥). subst P (let e : 2 * (c / 2) + 1 ≡ c = omega arith in e) right)
-    (cases_eq (c % 2) 0)
-
--- the sibling of an even place is the next one, and of an odd place the one before
-sibling-is : (b : ℕ) → sibling_of b ≡ b + 1 - 2 * (b % 2)
-sibling-is b =
-    ⊎_elim
-    (λ (even : b % 2 ≡ 0). sibling-even b even ∙ omega arith)
-    (λ (odd : b % 2 ≡ 0 → ⊥). sibling-odd b odd ∙ omega arith)
-    (cases_eq (b % 2) 0)
+child P c left right = search rules
 
 pub sibling-half : (b : ℕ) → sibling_of b / 2 ≡ b / 2
 sibling-half b = omega (arith, sibling-is b)
@@ -84,13 +67,10 @@ module _ (h i : ℕ) where
 
   -- the places of the bottom level, l levels below the leaf
   pub near-bottom : (l k : ℕ) → k < 2 ^ l → Near h i (h + l) (i * 2 ^ l + k)
-  near-bottom l k lt =
-      ap (λ e. (i * 2 ^ l + k) / 2 ^ e) (omega arith) ∙ digits_div i {m = 2 ^ l} {r = k} lt ∙ sym (shr-none i (h - (h + l)) (omega arith))
+  near-bottom l k lt = search rules
 
   bottom-near : (l p : ℕ) → Near h i (h + l) p → i * 2 ^ l + p % 2 ^ l ≡ p
-  bottom-near l p near =
-      let is : i ≡ p / 2 ^ l = sym (shr-none i (h - (h + l)) (omega arith)) ∙ sym near ∙ ap (λ e. p / 2 ^ e) (omega arith) in
-      ap (λ q. q * 2 ^ l + p % 2 ^ l) is ∙ split p l
+  bottom-near l p near = search rules
 
 -- what holds beside the way up and at the bottom, and with two places of the one above them, holds below each near place
 module _ (h i l : ℕ) (P : ℕ → ℕ → Type 0) (siblings : (e : ℕ) → e < h → P (h - e) (sibling_of (i / 2 ^ e))) (bottom : (k : ℕ) → k < 2 ^ l → P (h + l) (i * 2 ^ l + k)) (parent : (a b : ℕ) → a < h + l → Near h i a b → P (a + 1) (2 * b) → P (a + 1) (2 * b + 1) → P a b) where

@@ -1,16 +1,17 @@
 -- The nodes of the two sides: each the parent of two below it, and within the leaf.
 -- Assumes nothing.
-use Rattle.std.proofs.Common.{◌≡◌, ℕ, zero, suc, ◌+◌, ◌-◌, ◌*◌, ◌/◌, ◌%◌, ◌^◌, ◌<◌, ◌≤◌, eqb, leb, List, sym, refl, ap, ◌∙◌, ⊎_elim, mul_assoc, add-mul, add-one, arith}
+use Rattle.std.proofs.Common.{◌≡◌, ℕ, zero, suc, ◌+◌, ◌-◌, ◌*◌, ◌/◌, ◌%◌, ◌^◌, ◌<◌, ◌≤◌, eqb, leb, List, sym, refl, ap, ◌∙◌, ⊎_elim, mul_assoc, add-mul, arith, rules}
 use native.Mathlib.Nat.{div-eq_of_lt}
 use lib.Arith.{digits_lt, digits_div, digits_mod}
 use Rattle.std.proofs.lemmas.Nat.{pow-add, shr-shr}
-use Rattle.std.proofs.lemmas.Bool.{cases_eq, cases_lt, cond-true, cond-false, eq-eqb, ne_eqb, le-leb, lt-leb}
+use Rattle.std.proofs.lemmas.Bool.{cases_lt, cond-true, cond-false, eq-eqb, ne_eqb, le-leb, lt-leb}
 use Rattle.strings.specs.Strings.{string_at}
 use Rattle.tree.specs.Meaning.{Hash, Code}
 use Rattle.tree.specs.Nodes.{node, above, climb, one_time}
 use Rattle.tree.specs.Rebuilt.{rebuilt}
-use Rattle.tree.proofs.Laws.{node-moved, node-parent, climb-root, climb-turn}
+use Rattle.tree.proofs.Laws.{node-moved, node-parent, above-both, climb-root, climb-turn}
 use Rattle.growth.specs.Grown.{leaf_string, bottom, parent_at}
+use Rattle.growth.proofs.Paths.{shr-none}
 use Rattle.compare.specs.Sides.{Traced, given, our_node, their_bottom, their_leaf, their_sibling, their_node}
 
 -- a node within block i of the bottom strings, which has 2 ^ (c + d) of them, is a node over that block alone
@@ -34,11 +35,7 @@ module _ (parent : ℕ → List ℕ → List ℕ → List ℕ) (sibling : ℕ �
 
   given-on : (d b : ℕ) → b ≡ i / 2 ^ (d + 1) → given parent sibling leaf h i (d + 1) b ≡ parent (h - (d + 1)) (given parent sibling leaf h i d (2 * b)) (given parent sibling leaf h i d (2 * b + 1))
   unfolding given
-  given-on d b e =
-      let more = add-one d in
-      ap (λ n. given parent sibling leaf h i n b) more
-      ∙ cond-true (eqb b (i / 2 ^ suc d)) _ _ (eq-eqb b (i / 2 ^ suc d) (e ∙ ap (λ n. i / 2 ^ n) more))
-      ∙ ap (λ n. parent (h - n) (given parent sibling leaf h i d (2 * b)) (given parent sibling leaf h i d (2 * b + 1))) (sym more)
+  given-on d b e = search rules
 
   given-beside : (d b : ℕ) → (b ≡ i / 2 ^ d → ⊥) → given parent sibling leaf h i d b ≡ sibling (h - d)
   unfolding given
@@ -55,13 +52,7 @@ module _ (hash : Hash) (code : Code) (t : Traced) where
   abbrev parent : ℕ → List ℕ → List ℕ → List ℕ
   parent = parent_at hash t.origin
 
-  -- the signer's nodes: each the parent of the two below it; and within the leaf
-  pub our-parent : (a b : ℕ) → a < h + l → our_node hash code t a b ≡ parent a (our_node hash code t (a + 1) (2 * b)) (our_node hash code t (a + 1) (2 * b + 1))
-  our-parent a b lt =
-      let d = h + l - (a + 1) in
-      let up : h + l - a ≡ d + 1 = omega arith in
-      ap (λ n. node parent (bottom hash code t.origin) a n b) up ∙ node-parent parent (bottom hash code t.origin) a d b
-
+  -- the signer's nodes within the leaf
   pub our-inner : (c q : ℕ) → c ≤ l → q < 2 ^ c → our_node hash code t (h + c) (t.leaf * 2 ^ c + q) ≡ node parent (leaf_string hash code t.origin t.leaf) (h + c) (l - c) q
   our-inner c q le lt =
       let b = t.leaf * 2 ^ c + q in
@@ -73,10 +64,7 @@ module _ (hash : Hash) (code : Code) (t : Traced) where
 
   -- the record's nodes: down to the leaf's level, and within the leaf
   their-up : (d b : ℕ) → d ≤ h → their_node hash code t (h - d) b ≡ given parent (their_sibling hash code t) (their_leaf hash code t) h t.leaf d b
-  their-up d b le =
-      let back : h - (h - d) ≡ d = omega arith in
-      cond-true (leb (h - d) h) _ _ (le-leb (h - d) h (omega arith))
-      ∙ ap (λ n. given parent (their_sibling hash code t) (their_leaf hash code t) h t.leaf n b) back
+  their-up d b le = search rules
 
   their-low : (c b : ℕ) → b / 2 ^ c ≡ t.leaf → their_node hash code t (h + c) b ≡ node parent (their_bottom hash code t) (h + c) (l - c) b
   their-low zero b near =
@@ -121,7 +109,7 @@ module _ (hash : Hash) (code : Code) (t : Traced) where
       let d = h - (a + 1) in
       let level : h - (d + 1) ≡ a = omega arith in
       let below : h - d ≡ a + 1 = omega arith in
-      let place : t.leaf / 2 ^ (d + 1) ≡ b = ap (λ n. t.leaf / 2 ^ n) (let e : d + 1 ≡ h - a = omega arith in e) ∙ sym near ∙ ap (λ n. b / 2 ^ n) (let e : a - h ≡ 0 = omega arith in e) ∙ omega arith in
+      let place : t.leaf / 2 ^ (d + 1) ≡ b = ap (λ n. t.leaf / 2 ^ n) (let e : d + 1 ≡ h - a = omega arith in e) ∙ sym near ∙ shr-none b (a - h) (omega arith) in
       (λ i. their_node hash code t (sym level i) (sym place i))
       ∙ their-on d (omega arith)
       ∙ (λ i. parent (level i) (their_node hash code t (below i) (2 * place i)) (their_node hash code t (below i) (2 * place i + 1))))
@@ -129,7 +117,7 @@ module _ (hash : Hash) (code : Code) (t : Traced) where
       let c = a - h in
       let level : h + c ≡ a = omega arith in
       let below : h + (c + 1) ≡ a + 1 = omega arith in
-      let within : b / 2 ^ c ≡ t.leaf = near ∙ ap (λ n. t.leaf / 2 ^ n) (let e : h - a ≡ 0 = omega arith in e) ∙ omega arith in
+      let within : b / 2 ^ c ≡ t.leaf = near ∙ shr-none t.leaf (h - a) (omega arith) in
       let half : (n : ℕ) → n / 2 ≡ b → n / 2 ^ (c + 1) ≡ t.leaf = λ n e. ap (λ m. n / 2 ^ m) (let s : c + 1 ≡ 1 + c = omega arith in s) ∙ sym (shr-shr n 1 c) ∙ ap (λ m. m / 2 ^ c) e ∙ within in
       let child : (n : ℕ) → n / 2 ≡ b → node parent (their_bottom hash code t) (a + 1) (l - (c + 1)) n ≡ their_node hash code t (a + 1) n =
       λ n e. sym (ap (λ m. their_node hash code t m n) (sym below) ∙ their-low (c + 1) n (half n e) ∙ ap (λ m. node parent (their_bottom hash code t) m (l - (c + 1)) n) below) in
@@ -144,20 +132,10 @@ module _ (hash : Hash) (code : Code) (t : Traced) where
   their-above : (d b : ℕ) → d < h → b ≡ t.leaf / 2 ^ d → above parent (h - d - 1) b (their_node hash code t (h - d) b) (their_sibling hash code t (h - d)) ≡ their_node hash code t (h - (d + 1)) (b / 2)
   their-above d b lt is =
       let at = their_node hash code t (h - d) in
-      let up = parent (h - d - 1) in
       let level : h - d - 1 ≡ h - (d + 1) = omega arith in
       let half : t.leaf / 2 ^ (d + 1) ≡ b / 2 = sym (shr-shr t.leaf d 1) ∙ ap (λ n. n / 2) (sym is) in
       let beside : (n : ℕ) → (n ≡ b → ⊥) → their_sibling hash code t (h - d) ≡ at n = λ n ne. sym (their-beside d n (omega arith) (λ e. ne (e ∙ sym is))) in
-      ⊎_elim
-      (λ (even : b % 2 ≡ 0).
-      let left : b ≡ 2 * (b / 2) = omega arith in
-      cond-true (eqb (b % 2) 0) _ _ (eq-eqb (b % 2) 0 even)
-      ∙ (λ j. up (at (left j)) (beside (2 * (b / 2) + 1) (λ e. omega arith) j)))
-      (λ (odd : b % 2 ≡ 0 → ⊥).
-      let right : b ≡ 2 * (b / 2) + 1 = omega arith in
-      cond-false (eqb (b % 2) 0) _ _ (ne_eqb (b % 2) 0 odd)
-      ∙ (λ j. up (beside (2 * (b / 2)) (λ e. omega arith) j) (at (right j))))
-      (cases_eq (b % 2) 0)
+      above-both parent at (h - d - 1) b (their_sibling hash code t (h - d)) (λ even. beside (2 * (b / 2) + 1) (λ e. omega arith)) (λ odd. beside (2 * (b / 2)) (λ e. omega arith))
       ∙ (λ j. parent (level j) (at (2 * sym half j)) (at (2 * sym half j + 1)))
       ∙ sym (their-on d lt)
       ∙ ap (their_node hash code t (h - (d + 1))) half

@@ -1,12 +1,10 @@
 -- The search finds what trace is to find, and nothing else.
 -- Assumes nothing.
-use Rattle.std.proofs.Common.{◌≡◌, ℕ, zero, suc, ◌+◌, ◌-◌, ◌*◌, ◌/◌, ◌^◌, ◌<◌, ◌≤◌, Bool, true, false, ◌⊎◌, Some, None, Decides, Option, sym, refl, ap, ◌∙◌, subst, inl, inr, ⊎_elim, div-mul-le_self, add-one, arith, pow_pos, MatchOption}
-use native.Mathlib.Nat.{lt-div-mul-add}
-use lib.Arith.{digits_div}
+use Rattle.std.proofs.Common.{◌≡◌, ℕ, zero, suc, ◌+◌, ◌-◌, ◌/◌, ◌^◌, ◌<◌, ◌≤◌, Bool, true, false, ◌⊎◌, Some, None, Decides, Option, sym, refl, ◌∙◌, subst, inl, inr, ⊎_elim, add-one, arith, MatchOption, rules}
 use Rattle.std.specs.Option.{option_or}
 use Rattle.std.specs.Bool.{then_some}
 use Rattle.std.proofs.lemmas.Slice.Eq.{bytes_eq-Decides}
-use Rattle.std.proofs.lemmas.Option.{MatchOption-at_some, MatchOption-at_none}
+use Rattle.std.proofs.lemmas.Option.{MatchOption-at_some}
 use Rattle.std.proofs.lemmas.Bool.{cases_lt, cases_order, false≢true}
 use Rattle.std.proofs.lemmas.Bool.Decides.{Decides-and, Decides-not, Decides-ltb, Decides-like}
 use Rattle.tree.specs.Meaning.{Hash, Code}
@@ -16,8 +14,9 @@ use Rattle.compare.specs.Found.{NodeBreak, ChainBreak, Hidden, node_report, chai
 use Rattle.compare.specs.declared.verdict.Find.{Find}
 use Rattle.compare.specs.declared.verdict.Verdict.{Verdict}
 use Rattle.compare.specs.declared.verdict.Verdict.TheVariants.{Node, Chain, Unrevealed}
-use Rattle.compare.proofs.Firsts.{first-none, first_more, last_none, last_more}
-use Rattle.compare.proofs.Nodes.{our-parent, their-parent}
+use Rattle.compare.proofs.Firsts.{first_more}
+use Rattle.growth.proofs.Trees.{node-up}
+use Rattle.compare.proofs.Nodes.{their-parent}
 
 -- the first of n places from a on of which Here holds: of each place before it Other holds
 pub record First (Here Other : ℕ → Type 0) (a n : ℕ) : Type 0 where
@@ -49,11 +48,7 @@ module _ (N : ℕ → Type 0) (Q : ℕ → Find → Type 0) (a : ℕ) where
   LastOf n o = MatchOption o (Nowhere n) (λ x. Last (λ k. Q k x) N a n)
 
   nowhere-more : (n : ℕ) → Nowhere n → N (a + n) → Nowhere (n + 1)
-  nowhere-more n none last k lo hi =
-      ⊎_elim
-      (λ (lt : k < a + n). none k lo lt)
-      (λ (le : a + n ≤ k). let e : a + n ≡ k = omega arith in subst N e last)
-      (cases_lt k (a + n))
+  nowhere-more n none last k lo hi = search rules
 
   first_step : (n : ℕ) (o p : Option Find) → FirstOf n o → MatchOption p (N (a + n)) (Q (a + n)) → FirstOf (n + 1) (option_or o p)
   first_step n (Some x) p s c = record { at = s.at; from = s.from; under = omega arith; here = s.here; before = s.before }
@@ -67,16 +62,17 @@ module _ (N : ℕ → Type 0) (Q : ℕ → Find → Type 0) (a : ℕ) where
   last_step n None None s c = nowhere-more n s c
 
   pub first-cases : (f : ℕ → Option Find) (n : ℕ) → ((k : ℕ) → a ≤ k → k < a + n → MatchOption (f k) (N k) (Q k)) → FirstOf n (first_from f a n)
-  first-cases f zero each = subst (FirstOf 0) (sym (first-none f a)) (λ k lo hi. absurd (omega arith))
+  unfolding first_from
+  first-cases f zero each = λ k lo hi. absurd (omega arith)
   first-cases f (suc n) each =
       subst (λ m. FirstOf m (first_from f a m)) (add-one n)
       (subst (FirstOf (n + 1)) (sym (first_more f a n)) (first_step n (first_from f a n) (f (a + n)) (first-cases f n (λ k lo hi. each k lo (omega arith))) (each (a + n) (omega arith) (omega arith))))
 
   pub last-cases : (f : ℕ → Option Find) (n : ℕ) → ((k : ℕ) → a ≤ k → k < a + n → MatchOption (f k) (N k) (Q k)) → LastOf n (last_from f a n)
-  last-cases f zero each = subst (LastOf 0) (sym (last_none f a)) (λ k lo hi. absurd (omega arith))
+  unfolding last_from
+  last-cases f zero each = λ k lo hi. absurd (omega arith)
   last-cases f (suc n) each =
-      subst (λ m. LastOf m (last_from f a m)) (add-one n)
-      (subst (LastOf (n + 1)) (sym (last_more f a n)) (last_step n (last_from f a n) (f (a + n)) (last-cases f n (λ k lo hi. each k lo (omega arith))) (each (a + n) (omega arith) (omega arith))))
+      subst (λ m. LastOf m (last_from f a (suc n))) (add-one n) (last_step n (last_from f a n) (f (a + n)) (last-cases f n (λ k lo hi. each k lo (omega arith))) (each (a + n) (omega arith) (omega arith)))
 
 -- the same, of the finds themselves
 itself : (o : Option Find) → MatchOption o (o ≡ None) (λ x. o ≡ Some x)
@@ -87,14 +83,8 @@ module _ (f : ℕ → Option Find) (a n : ℕ) where
   pub first_found : (x : Find) → first_from f a n ≡ Some x → First (λ k. f k ≡ Some x) (λ k. f k ≡ None) a n
   first_found x e = MatchOption-at_some _ _ x e (first-cases (λ k. f k ≡ None) (λ k y. f k ≡ Some y) a f n (λ k lo hi. itself (f k)))
 
-  pub first-nothing : first_from f a n ≡ None → (k : ℕ) → a ≤ k → k < a + n → f k ≡ None
-  first-nothing e = MatchOption-at_none _ _ e (first-cases (λ k. f k ≡ None) (λ k y. f k ≡ Some y) a f n (λ k lo hi. itself (f k)))
-
   pub last_found : (x : Find) → last_from f a n ≡ Some x → Last (λ k. f k ≡ Some x) (λ k. f k ≡ None) a n
   last_found x e = MatchOption-at_some _ _ x e (last-cases (λ k. f k ≡ None) (λ k y. f k ≡ Some y) a f n (λ k lo hi. itself (f k)))
-
-  pub last-nothing : last_from f a n ≡ None → (k : ℕ) → a ≤ k → k < a + n → f k ≡ None
-  last-nothing e = MatchOption-at_none _ _ e (last-cases (λ k. f k ≡ None) (λ k y. f k ≡ Some y) a f n (λ k lo hi. itself (f k)))
 
 -- facts about an option made weaker
 cases-weaker : {P P' : Type 0} {Q Q' : Find → Type 0} (o : Option Find) → MatchOption o P Q → (P → P') → ((x : Find) → Q x → Q' x) → MatchOption o P' Q'
@@ -173,34 +163,24 @@ module _ (hash : Hash) (code : Code) (t : Traced) where
   -- at one place
   node-found : (a b : ℕ) → a < h + code.levels → b / 2 ^ (a - h) ≡ t.leaf / 2 ^ (h - a) → MatchOption (node_find_at hash code t a b) (NodeBreak hash code t a b → ⊥) (λ x. NodeBreak hash code t a b × (x ≡ node_find a b))
   node-found a b lt near =
-      let our = our-parent hash code t a b lt in
+      let our = node-up hash code t.origin a b lt in
       let their = their-parent hash code t a b lt near in
       when-cases _ (node_find a b)
       (Decides-like _ (λ p. record { inner = lt; near = near; equal = our ∙ p.0 ∙ sym their; differ = p.1 }) (λ n. (sym our ∙ n.equal ∙ their, n.differ))
       (Decides-and _ _ (bytes_eq-Decides _ _) (Decides-not _ (Decides-and _ _ (bytes_eq-Decides _ _) (bytes_eq-Decides _ _)))))
 
   chain-found : (k e : ℕ) → k < code.count → code.digit t.stamp k ≤ e → e < code.top → MatchOption (chain_find_at hash code t k e) (ChainBreak hash code t k e → ⊥) (λ x. ChainBreak hash code t k e × (x ≡ chain_find k e))
-  chain-found k e lt shown under =
-      when-cases _ (chain_find k e)
-      (Decides-like _ (λ p. record { chain = lt; shown = shown; under = under; differ = p.1; equal = p.0 }) (λ c. (c.equal, c.differ))
-      (Decides-and _ _ (bytes_eq-Decides _ _) (Decides-not _ (bytes_eq-Decides _ _))))
+  chain-found k e lt shown under = search rules
 
   hidden_found : (k : ℕ) → k < code.count → MatchOption (hidden_find_at hash code t k) (Hidden code t k → ⊥) (λ x. Hidden code t k × (x ≡ hidden_find_of k))
   hidden_found k lt = when-cases _ (hidden_find_of k) (Decides-like _ (λ p. record { chain = lt; below = p }) (λ u. u.below) (Decides-ltb _ _))
 
   -- the places of a level that are searched are those above the leaf or within it
-  near-from : (a b : ℕ) → first_place hash code t a ≤ b → b < first_place hash code t a + width hash code t a → b / 2 ^ (a - h) ≡ t.leaf / 2 ^ (h - a)
-  near-from a b lo hi =
-      let q = t.leaf / 2 ^ (h - a) in
-      let w = 2 ^ (a - h) in
-      let rest : b ≡ q * w + (b - q * w) = omega arith in
-      ap (λ n. n / w) rest ∙ digits_div q (omega arith)
+  pub near-from : (a b : ℕ) → first_place hash code t a ≤ b → b < first_place hash code t a + width hash code t a → b / 2 ^ (a - h) ≡ t.leaf / 2 ^ (h - a)
+  near-from a b lo hi = search rules
 
   near-to : (a b : ℕ) → b / 2 ^ (a - h) ≡ t.leaf / 2 ^ (h - a) → (first_place hash code t a ≤ b) × (b < first_place hash code t a + width hash code t a)
-  near-to a b near =
-      let w = 2 ^ (a - h) in
-      let is = ap (λ q. q * w) near in
-      (omega (arith, div-mul-le_self b w), omega (arith, lt-div-mul-add {a = b} {b = w} (pow_pos (a - h))))
+  near-to a b near = search rules
 
   -- in one row, which is a level or a chain: the lowest position of a level, the greatest height of a chain
   in-level : (a : ℕ) → a < h + code.levels → RowOf (NodeBreak hash code t) node_find ◌≤◌ a (level_search hash code t a)

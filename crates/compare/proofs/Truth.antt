@@ -7,16 +7,16 @@ use Rattle.strings.proofs.Laws.{xor-injective}
 use Rattle.tree.specs.Meaning.{Hash, Code}
 use Rattle.tree.specs.Rebuilt.{rebuilt}
 use Rattle.tree.proofs.Laws.{one-time-past}
-use Rattle.growth.specs.Grown.{secret, leaf_string, parent_at, node_at}
+use Rattle.growth.specs.Grown.{secret, leaf_string, node_at}
 use Rattle.growth.specs.Shown.{sibling_of, shown_row}
 use Rattle.compare.specs.Sides.{Traced, our_chain, their_chain, our_node, their_node, left_input, right_input, revealed_height}
 use Rattle.compare.specs.Found.{NodeBreak, ChainBreak, Hidden, Found, ours}
 use Rattle.compare.specs.declared.verdict.Verdict.TheVariants.{Ours}
 use Rattle.compare.proofs.Lawful.{Lawful}
-use Rattle.compare.proofs.Near.{Near, child, sibling-half, root-only, near-way, near_up, near-bottom, below-near}
-use Rattle.compare.proofs.Nodes.{our-parent, their-parent, their-root}
+use Rattle.compare.proofs.Near.{Near, child, sibling-half, root-only, near-way, near_up, near-bottom}
+use Rattle.compare.proofs.Nodes.{their-root}
 use Rattle.compare.proofs.Rows.{same_or_not, same-unless, both-unless, another}
-use Rattle.compare.proofs.Agreeing.{SameNode, SameChain, our_step, their-step, their-first, their_string, our-bottom, their-bottom, our-top, their-top, their-sibling, ShowsChains, ShowsSiblings, row_shows, shows-row}
+use Rattle.compare.proofs.Agreeing.{SameNode, SameChain, our_step, their-step, their-first, their_string, our-bottom, their-bottom, our-top, their-top, their-sibling, same-below, ShowsChains, ShowsSiblings, row_shows, shows-row}
 
 module _ (hash : Hash) (code : Code) (t : Traced) where
   abbrev h : ℕ
@@ -96,23 +96,23 @@ module _ (hash : Hash) (code : Code) (t : Traced) where
   entered-is lawful str (Some m) strs none =
       ⊎_elim (λ (is : t.stamp ≡ m). ap Some (sym is))
       (λ (isnt : t.stamp ≡ m → ⊥).
-      let larger = lawful.apart t.stamp m str (strs m refl) isnt in
+      let larger = lawful.laws.apart t.stamp m str (strs m refl) isnt in
       let k = larger.0 in
       absurd
       (⊎_elim
       (λ (lt : k < code.count). none k lt larger.1)
-      (λ (le : code.count ≤ k). omega (arith, lawful.past t.stamp k le, lawful.past m k le, larger.1))
+      (λ (le : code.count ≤ k). omega (arith, lawful.laws.past t.stamp k le, lawful.laws.past m k le, larger.1))
       (cases_lt k code.count)))
       (same_or_not t.stamp m)
   entered-is lawful str None strs none =
       let other = another t.stamp in
-      let larger = lawful.apart t.stamp other.0 str other.1 other.2 in
+      let larger = lawful.laws.apart t.stamp other.0 str other.1 other.2 in
       let k = larger.0 in
-      let top = lawful.within other.0 k other.1 in
+      let top = lawful.laws.within other.0 k other.1 in
       absurd
       (⊎_elim
       (λ (lt : k < code.count). none k lt (omega (arith, top, larger.1)))
-      (λ (le : code.count ≤ k). omega (arith, lawful.past t.stamp k le, top, larger.1))
+      (λ (le : code.count ≤ k). omega (arith, lawful.laws.past t.stamp k le, top, larger.1))
       (cases_lt k code.count))
 
   -- where the row shows the signer's strings, both sides are equal: along the chains, and from the bottom up
@@ -140,12 +140,7 @@ module _ (hash : Hash) (code : Code) (t : Traced) where
     no_node : NoNode
     no_node a b break =
         let under =
-        below-near h t.leaf l Same
-        (λ e lt. sym (siblings e lt) ∙ sym (their-sibling hash code t e lt))
-        (λ k lt. our-bottom hash code t k lt ∙ string-shown k ∙ sym (their-bottom hash code t k lt))
-        (λ a' b' inner near left right.
-        our-parent hash code t a' b' inner ∙ (λ i. parent_at hash t.origin a' (left i) (right i)) ∙ sym (their-parent hash code t a' b' inner near))
-        a b break.inner break.near in
+        same-below hash code t l (omega arith) (λ e lt. sym (siblings e lt)) (λ k lt. our-bottom hash code t k lt ∙ string-shown k ∙ sym (their-bottom hash code t k lt)) a b break.inner break.near in
         break.differ (ap (λ s. xor s (string_at t.origin.masks (2 * a))) under.0, ap (λ s. xor s (string_at t.origin.masks (2 * a + 1))) under.1)
 
     no-chain : NoChain
@@ -158,8 +153,8 @@ module _ (hash : Hash) (code : Code) (t : Traced) where
         let root = sym leads ∙ their-root hash code t placed in
         let chains : ShowsChains hash code t =
         λ k chain.
-        let fits = lawful.within t.stamp k str in
-        let place : k < 2 ^ l = omega (arith, lawful.count_range.1) in
+        let fits = lawful.laws.within t.stamp k str in
+        let place : k < 2 ^ l = omega (arith, lawful.laws.count_range.1) in
         let top = tops-same nodes placed root k chain place in
         sym (their-first hash code t k) ∙ sym (chain_same breaks k chain top (code.top - digit k) (digit k) (omega arith) (omega arith)) in
         shows-row hash code t lawful tall long chains (siblings-same nodes placed root)
@@ -174,5 +169,5 @@ module _ (hash : Hash) (code : Code) (t : Traced) where
     pub true-ours : t.entered ≡ Some t.stamp → t.row ≡ shown_row hash code t.origin t.leaf t.stamp → Found hash code t Ours
     true-ours entered is =
         let shows = row_shows hash code t lawful tall is in
-        let low : (k : ℕ) → digit k ≤ code.top = λ k. lawful.within t.stamp k str in
+        let low : (k : ℕ) → digit k ≤ code.top = λ k. lawful.laws.within t.stamp k str in
         ours (no_node low shows.0 shows.1) (no-chain low shows.0 shows.1) (λ k hidden. let same = ap (λ o. revealed_height code o k) entered in omega (arith, same, hidden.below))

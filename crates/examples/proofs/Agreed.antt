@@ -1,22 +1,20 @@
 -- Where both sides have one node at each place of a level, no node above it is found.
 -- Assumes nothing.
-use Rattle.std.proofs.Common.{◌≡◌, ℕ, zero, suc, ◌+◌, ◌-◌, ◌*◌, ◌/◌, ◌^◌, ◌<◌, ◌≤◌, true, false, not, ◌&&◌, List, ◌++◌, None, Option, sym, refl, ap, ◌∙◌, arith}
-use lib.Arith.{digits_div}
+use Rattle.std.proofs.Common.{◌≡◌, ℕ, zero, suc, ◌+◌, ◌-◌, ◌*◌, ◌/◌, ◌^◌, ◌<◌, ◌≤◌, true, false, not, ◌&&◌, List, ◌++◌, None, Option, refl, ap, ◌∙◌, arith}
 use Rattle.std.specs.Option.{option_or}
 use Rattle.std.specs.Bool.{then_some}
 use Rattle.std.specs.Str.{bytes_eq}
 use Rattle.std.proofs.lemmas.Slice.Eq.{bytes_eq-Decides}
 use Rattle.strings.specs.Strings.{xor, string_at}
 use Rattle.tree.specs.Meaning.{Hash, Code}
-use Rattle.growth.specs.Grown.{parent_at}
 use Rattle.growth.specs.Shown.{sibling_of}
 use Rattle.compare.specs.Search.{first_from, pair_find, child_find, node_find_at, width, first_place, level_search, node_search}
 use Rattle.compare.specs.Sides.{Traced, our_node, their_node}
 use Rattle.compare.specs.declared.verdict.Find.{Find}
-use Rattle.compare.proofs.Agreeing.{SameNode, their-sibling}
+use Rattle.compare.proofs.Agreeing.{SameNode, same-below}
+use Rattle.compare.proofs.Searches.{near-from}
 use Rattle.compare.proofs.Firsts.{first-split}
-use Rattle.compare.proofs.Near.{Near, below-near}
-use Rattle.compare.proofs.Nodes.{our-parent, their-parent}
+use Rattle.compare.proofs.Near.{Near}
 
 -- a search that finds nothing at any place
 nowhere : (f : ℕ → Option Find) (a n : ℕ) → ((b : ℕ) → a ≤ b → b < a + n → f b ≡ None) → first_from f a n ≡ None
@@ -43,13 +41,7 @@ module _ (hash : Hash) (code : Code) (t : Traced) (l : ℕ) (within : l ≤ code
 
   alike : (a b : ℕ) → a < h + l → Near h t.leaf a b → node_find_at hash code t a b ≡ None
   alike a b inner near =
-      let under =
-      below-near h t.leaf l (SameNode hash code t)
-      (λ e lt. siblings e lt ∙ sym (their-sibling hash code t e lt))
-      level
-      (λ a' b' inner' near' left right.
-      our-parent hash code t a' b' (omega arith) ∙ (λ i. parent_at hash t.origin a' (left i) (right i)) ∙ sym (their-parent hash code t a' b' (omega arith) near'))
-      a b inner near in
+      let under = same-below hash code t l within siblings level a b inner near in
       let left = their_node hash code t (a + 1) (2 * b) in
       let right = their_node hash code t (a + 1) (2 * b + 1) in
       let pair = hash.pair t.origin.hash_key in
@@ -58,11 +50,7 @@ module _ (hash : Hash) (code : Code) (t : Traced) (l : ℕ) (within : l ≤ code
   level-nowhere : (a : ℕ) → a < h + l → level_search hash code t a ≡ None
   level-nowhere a inner =
       nowhere (node_find_at hash code t a) (first_place hash code t a) (width hash code t a)
-      (λ b lo hi.
-      let q = t.leaf / 2 ^ (h - a) in
-      let w = 2 ^ (a - h) in
-      let rest : b ≡ q * w + (b - q * w) = omega arith in
-      alike a b inner (ap (λ n. n / w) rest ∙ digits_div q (omega arith)))
+      (λ b lo hi. alike a b inner (near-from hash code t a b lo hi))
 
   -- so the search goes on below that level
   pub searched-below : node_search hash code t ≡ first_from (level_search hash code t) (h + l) (code.levels - l)

@@ -1,32 +1,26 @@
 -- What a release of a leaf shows leads to the root of the tree.
 -- Assumes nothing.
-use Rattle.std.proofs.Common.{◌≡◌, ℕ, zero, suc, ◌+◌, ◌-◌, ◌*◌, ◌/◌, ◌%◌, ◌^◌, ◌<◌, ◌≤◌, cond, eqb, ltb, List, take, sym, ap, ◌∙◌, ⊎_elim, add-one, arith, le-ltb, lt-ltb}
+use Rattle.std.proofs.Common.{◌≡◌, ℕ, zero, suc, ◌+◌, ◌-◌, ◌*◌, ◌/◌, ◌^◌, ◌<◌, ◌≤◌, cond, ltb, List, take, sym, refl, ap, ◌∙◌, ⊎_elim, add-one, arith, le-ltb, lt-ltb}
 use native.Mathlib.Nat.{div-eq_of_lt}
 use Rattle.std.proofs.lemmas.Nat.{shr-shr}
-use Rattle.std.proofs.lemmas.Bool.{cases_eq, cases_lt, cond-true, cond-false, eq-eqb, ne_eqb}
+use Rattle.std.proofs.lemmas.Bool.{cases_lt, cond-true, cond-false}
 use Rattle.strings.specs.Strings.{xor, string_at}
 use Rattle.tree.specs.Meaning.{Hash, Code}
 use Rattle.tree.specs.Nodes.{raise, node, above, climb, one_time}
 use Rattle.tree.specs.Rebuilt.{rebuilt}
-use Rattle.tree.proofs.Laws.{raise-none, raise-more, node-moved, node-bottom, node-parent, climb-root, climb-more, one-time-chain, one-time-past}
+use Rattle.tree.proofs.Laws.{node-moved, above-both, climb-root, climb-more, one-time-chain, one-time-past}
 use Rattle.growth.specs.Grown.{secret, chain_string, leaf_string, bottom, parent_at, node_at}
 use Rattle.growth.specs.Shown.{sibling_of, shown_string, shown_row}
 use Rattle.growth.specs.declared.origin.Origin.{Origin}
-use Rattle.growth.proofs.Paths.{sibling-even, sibling-odd}
+use Rattle.growth.proofs.Paths.{shr-none, sibling-is}
 use Rattle.growth.proofs.Strings.{Strings, at_take, row_at, shown-str}
 use Rattle.growth.proofs.Trees.{leaf-is, node-up}
 
 -- a chain raised in two parts
 pub raise-add : (step : List ℕ → List ℕ) (a b : ℕ) (s : List ℕ) → raise step a (raise step b s) ≡ raise step (a + b) s
-raise-add step zero b s = raise-none step (raise step b s) ∙ ap (λ n. raise step n s) (omega arith)
-raise-add step (suc a) b s =
-    let low : suc a ≡ a + 1 = sym (add-one a) in
-    let high : a + b + 1 ≡ suc a + b = omega arith in
-    ap (λ n. raise step n (raise step b s)) low
-    ∙ sym (raise-more step a (raise step b s))
-    ∙ ap step (raise-add step a b s)
-    ∙ raise-more step (a + b) s
-    ∙ ap (λ n. raise step n s) high
+unfolding raise
+raise-add step zero b s = ap (λ n. raise step n s) (omega arith)
+raise-add step (suc a) b s = ap step (raise-add step a b s) ∙ ap (λ n. raise step n s) (let e : suc (a + b) ≡ suc a + b = omega arith in e)
 
 module _ (hash : Hash) (code : Code) (o : Origin) (i : ℕ) (stamp row : List ℕ) where
   -- the shown strings raised to the top digit are the leaf's one-time strings
@@ -52,20 +46,8 @@ module _ (hash : Hash) (code : Code) (o : Origin) (i : ℕ) (stamp row : List �
   above-is : (a b : ℕ) → a < o.height → above (parent_at hash o) a b (node_at hash code o (a + 1) b) (node_at hash code o (a + 1) (sibling_of b)) ≡ node_at hash code o a (b / 2)
   above-is a b h =
       let at = node_at hash code o (a + 1) in
-      let up = parent_at hash o a in
-      ⊎_elim
-      (λ (even : b % 2 ≡ 0).
-      let left : b ≡ 2 * (b / 2) = omega arith in
-      let right : sibling_of b ≡ 2 * (b / 2) + 1 = sibling-even b even ∙ omega arith in
-      cond-true (eqb (b % 2) 0) (up (at b) (at (sibling_of b))) (up (at (sibling_of b)) (at b)) (eq-eqb (b % 2) 0 even)
-      ∙ (λ j. up (at (left j)) (at (right j))))
-      (λ (odd : b % 2 ≡ 0 → ⊥).
-      let right : b ≡ 2 * (b / 2) + 1 = omega arith in
-      let left : sibling_of b ≡ 2 * (b / 2) = sibling-odd b odd ∙ omega arith in
-      cond-false (eqb (b % 2) 0) (up (at b) (at (sibling_of b))) (up (at (sibling_of b)) (at b)) (ne_eqb (b % 2) 0 odd)
-      ∙ (λ j. up (at (left j)) (at (right j))))
-      (cases_eq (b % 2) 0)
-      ∙ sym (node-up hash code o a (b / 2) h)
+      above-both (parent_at hash o) at a b (at (sibling_of b)) (λ even. ap at (omega (arith, sibling-is b))) (λ odd. ap at (omega (arith, sibling-is b)))
+      ∙ sym (node-up hash code o a (b / 2) (omega arith))
 
   -- the way up from a node on the leaf's path
   climbed : (sibling : ℕ → List ℕ) → ((c : ℕ) → 1 ≤ c → c ≤ o.height → sibling c ≡ node_at hash code o c (sibling_of (i / 2 ^ (o.height - c)))) → (a : ℕ) → a ≤ o.height → climb (parent_at hash o) sibling a (i / 2 ^ (o.height - a)) (node_at hash code o a (i / 2 ^ (o.height - a))) ≡ node_at hash code o 0 (i / 2 ^ (o.height - 0))
@@ -98,7 +80,7 @@ module _ (hash : Hash) (code : Code) (o : Origin) (i : ℕ) (stamp row : List �
       ∙ cond-false (ltb (count + (h - c)) count) _ _ (le-ltb (count + (h - c)) count (omega arith))
       ∙ ap (λ e. node_at hash code o (h - e) (sibling_of (i / 2 ^ e))) past
       ∙ ap (λ n. node_at hash code o n (sibling_of (i / 2 ^ (h - c)))) level in
-      let whole : i / 2 ^ (h - h) ≡ i = ap (λ e. i / 2 ^ e) (let s : h - h ≡ 0 = omega arith in s) ∙ omega arith in
+      let whole = shr-none i (h - h) (omega arith) in
       let leaf : node parent (one_time (hash.step o.hash_key) count code.top (code.digit stamp) (string_at row)) h code.levels 0 ≡ node_at hash code o h i =
       node-moved parent _ _ h code.levels 0 0 (λ k below. leaf-shown low chains (0 * 2 ^ code.levels + k)) ∙ leaf-is hash code o i in
       ap (climb parent sibling h i) leaf
@@ -108,14 +90,10 @@ module _ (hash : Hash) (code : Code) (o : Origin) (i : ℕ) (stamp row : List �
 
 -- a node depends on the parents at its own levels alone
 pub node-under : (p q : ℕ → List ℕ → List ℕ → List ℕ) (f : ℕ → List ℕ) (n : ℕ) → ((c : ℕ) (l r : List ℕ) → c < n → p c l r ≡ q c l r) → (d a b : ℕ) → a + d ≤ n → node p f a d b ≡ node q f a d b
-node-under p q f n same zero a b h = node-bottom p f a b ∙ sym (node-bottom q f a b)
+unfolding node
+node-under p q f n same zero a b h = refl
 node-under p q f n same (suc d) a b h =
-    ap (λ m. node p f a m b) (sym (add-one d))
-    ∙ node-parent p f a d b
-    ∙ (λ i. p a (node-under p q f n same d (a + 1) (2 * b) (omega arith) i) (node-under p q f n same d (a + 1) (2 * b + 1) (omega arith) i))
-    ∙ same a _ _ (omega arith)
-    ∙ sym (node-parent q f a d b)
-    ∙ ap (λ m. node q f a m b) (add-one d)
+    (λ i. p a (node-under p q f n same d (suc a) (2 * b) (omega arith) i) (node-under p q f n same d (suc a) (2 * b + 1) (omega arith) i)) ∙ same a _ _ (omega arith)
 
 -- a release leads to the root under the masks of the tree's own levels too
 module _ (hash : Hash) (code : Code) (o : Origin) (all : Strings hash o) (tall : o.height ≤ 8) (few : code.levels ≤ 8) where

@@ -1,29 +1,22 @@
 -- What a tree and a release are made of are strings.
 -- Assumes nothing.
-use Rattle.std.proofs.Common.{◌≡◌, ℕ, zero, suc, ◌+◌, ◌-◌, ◌*◌, ◌/◌, ◌^◌, ◌<◌, ◌≤◌, ltb, List, [], ◌∷◌, ◌++◌, length, take, drop, sym, refl, ap, ◌∙◌, subst, ⊎_elim, zero-add, add-one, arith, le-ltb, lt-ltb}
+use Rattle.std.proofs.Common.{◌≡◌, ℕ, zero, suc, ◌+◌, ◌-◌, ◌*◌, ◌/◌, ◌^◌, ◌<◌, ◌≤◌, ltb, List, [], ◌∷◌, ◌++◌, length, take, drop, sym, refl, ap, ◌∙◌, ⊎_elim, zero-add, add-one, arith}
 use Rattle.std.specs.List.{range_with_len, flat_map}
 use Rattle.std.proofs.lemmas.List.FromFn.{map-range_with_len_more}
-use Rattle.std.proofs.lemmas.List.{length-append, map-id, flat_map_more, take-append-le, drop-append-le, take_all, drop_at, length-drop, take-append-drop, length-take-le}
-use Rattle.std.proofs.lemmas.Bool.{cases_lt, cond-true, cond-false}
-use Rattle.strings.specs.Strings.{Bytes, Str, string_at, zero_string, numeral}
-use Rattle.strings.proofs.Laws.{xor-str, numeral-str, string_at-str}
+use Rattle.std.proofs.lemmas.List.{length-append, map-id, flat_map_more, take_all, drop_at, take-append-drop, length-take-le}
+use Rattle.std.proofs.lemmas.Bool.{cases_lt, cond_both, ltb-true}
+use Rattle.strings.specs.Strings.{Bytes, Str, string_at, zero_string, numeral, xor}
+use Rattle.strings.proofs.Laws.{xor-str, numeral-str, string_at-str, piece-front}
 use Rattle.tree.specs.Meaning.{Hash, Code}
-use Rattle.tree.specs.Nodes.{node}
-use Rattle.tree.proofs.Laws.{raise-none, raise-more, node-bottom, node-parent, one-time-chain, one-time-past}
-use Rattle.growth.specs.Grown.{secret, chain_string, leaf_string, bottom, parent_at}
+use Rattle.tree.specs.Nodes.{raise, node, one_time}
+use Rattle.growth.specs.Grown.{secret, chain_string, bottom, parent_at}
 use Rattle.growth.specs.Shown.{sibling_of, shown_string}
 use Rattle.growth.specs.declared.origin.Origin.{Origin}
-
--- a string that lies in the front of a row
-pub at_front : (front rest : List ℕ) (i : ℕ) → 16 * i + 16 ≤ length front → string_at (front ++ rest) i ≡ string_at front i
-at_front front rest i fits =
-    let long : 16 ≤ length (drop (16 * i) front) = rw length-drop (omega arith) in
-    ap (take 16) (drop-append-le (16 * i) front rest (omega arith)) ∙ take-append-le 16 (drop (16 * i) front) rest long
 
 -- a string of the first n bytes
 pub at_take : (n : ℕ) (bytes : List ℕ) (i : ℕ) → n ≤ length bytes → 16 * i + 16 ≤ n → string_at (take n bytes) i ≡ string_at bytes i
 at_take n bytes i long fits =
-    sym (at_front (take n bytes) (drop n bytes) i (let e = length-take-le n bytes long in omega arith)) ∙ ap (λ l. string_at l i) (take-append-drop n bytes)
+    sym (piece-front 16 (take n bytes) (drop n bytes) (16 * i) (rw length-take-le fits)) ∙ ap (λ l. string_at l i) (take-append-drop n bytes)
 
 counting-push : (k : ℕ) → range_with_len 0 (k + 1) ≡ range_with_len 0 k ++ (k ∷ [])
 counting-push k = sym (map-id (range_with_len 0 (k + 1))) ∙ map-range_with_len_more (λ j. j) 0 k k (zero-add k) ∙ ap (λ l. l ++ (k ∷ [])) (map-id (range_with_len 0 k))
@@ -49,7 +42,7 @@ row_at f (suc n) each k h =
     ap (λ m. string_at (flat_map f (range_with_len 0 m)) k) (sym (add-one n))
     ∙ ap (λ l. string_at l k) (joined-push f n)
     ∙ ⊎_elim
-    (λ (lt : k < n). at_front row (f n) k (omega arith) ∙ row_at f n less k lt)
+    (λ (lt : k < n). piece-front 16 row (f n) (16 * k) (omega arith) ∙ row_at f n less k lt)
     (λ (le : n ≤ k).
     let is : k ≡ n = omega arith in
     ap (take 16) (drop_at row (f n) (16 * k) (omega arith))
@@ -57,7 +50,7 @@ row_at f (suc n) each k h =
     ∙ ap f (sym is))
     (cases_lt k n)
 
-zero-str : Str zero_string
+pub zero-str : Str zero_string
 unfolding numeral
 zero-str = numeral-str 0
 
@@ -69,34 +62,38 @@ pub record Strings (hash : Hash) (o : Origin) : Type 0 where
   pub keyed : Str o.hash_key
   pub masked : (length o.masks ≡ 512) × Bytes o.masks
 
-module _ (hash : Hash) (code : Code) (o : Origin) (all : Strings hash o) where
-  chain-str : (i k e : ℕ) → Str (chain_string hash o i k e)
-  chain-str i k zero = subst Str (sym (raise-none (hash.step o.hash_key) (secret hash o i k))) (all.joins o.seed (numeral i) (numeral k) all.seeded (numeral-str i) (numeral-str k))
-  chain-str i k (suc e) =
-      subst Str (raise-more (hash.step o.hash_key) e (secret hash o i k) ∙ ap (chain_string hash o i k) (add-one e)) (all.gives o.hash_key (chain_string hash o i k e) all.keyed (chain-str i k e))
+-- chains, one-time strings and parents of strings
+module _ (hash : Hash) (o : Origin) (all : Strings hash o) where
+  pub raise-str : (s : List ℕ) → Str s → (e : ℕ) → Str (raise (hash.step o.hash_key) e s)
+  unfolding raise
+  raise-str s str zero = str
+  raise-str s str (suc e) = all.gives o.hash_key _ all.keyed (raise-str s str e)
 
-  leaf-str : (i k : ℕ) → Str (leaf_string hash code o i k)
-  leaf-str i k =
-      let step = hash.step o.hash_key in
-      ⊎_elim
-      (λ (lt : k < code.count). subst Str (sym (one-time-chain step code.top (λ j. 0) (secret hash o i) code.count k lt)) (chain-str i k (code.top - 0)))
-      (λ (le : code.count ≤ k). subst Str (sym (one-time-past step code.top (λ j. 0) (secret hash o i) code.count k le)) zero-str)
-      (cases_lt k code.count)
+  pub one-time-str : (count top : ℕ) (digit : ℕ → ℕ) (shown : ℕ → List ℕ) → ((k : ℕ) → k < count → Str (shown k)) → (k : ℕ) → Str (one_time (hash.step o.hash_key) count top digit shown k)
+  one-time-str count top digit shown strs k = cond_both (ltb k count) _ _ Str (λ e. raise-str (shown k) (strs k (ltb-true k count e)) (top - digit k)) (λ e. zero-str)
+
+  pub input-str : (s : List ℕ) (k : ℕ) → k < 32 → Str s → Str (xor s (string_at o.masks k))
+  input-str s k lt str = let long = all.masked.0 in xor-str s (string_at o.masks k) str (string_at-str o.masks k (omega arith) all.masked.1)
+
+  pub parent-str : (a : ℕ) (left right : List ℕ) → a < 16 → Str left → Str right → Str (parent_at hash o a left right)
+  parent-str a left right lt ls rs = all.joins o.hash_key _ _ all.keyed (input-str left (2 * a) (omega arith) ls) (input-str right (2 * a + 1) (omega arith) rs)
+
+module _ (hash : Hash) (code : Code) (o : Origin) (all : Strings hash o) where
+  secret-str : (i k : ℕ) → Str (secret hash o i k)
+  secret-str i k = all.joins o.seed (numeral i) (numeral k) all.seeded (numeral-str i) (numeral-str k)
+
+  pub chain-str : (i k e : ℕ) → Str (chain_string hash o i k e)
+  chain-str i k e = raise-str hash o all (secret hash o i k) (secret-str i k) e
 
   pub node-str : (d a b : ℕ) → a + d ≤ 16 → Str (node (parent_at hash o) (bottom hash code o) a d b)
-  node-str zero a b h = subst Str (sym (node-bottom (parent_at hash o) (bottom hash code o) a b)) (leaf-str _ _)
-  node-str (suc d) a b h =
-      let masks = o.masks in
-      let long = all.masked.0 in
-      let left = xor-str _ _ (node-str d (a + 1) (2 * b) (omega arith)) (string_at-str masks (2 * a) (omega arith) all.masked.1) in
-      let right = xor-str _ _ (node-str d (a + 1) (2 * b + 1) (omega arith)) (string_at-str masks (2 * a + 1) (omega arith) all.masked.1) in
-      subst Str (sym (ap (λ n. node (parent_at hash o) (bottom hash code o) a n b) (sym (add-one d)) ∙ node-parent (parent_at hash o) (bottom hash code o) a d b)) (all.joins o.hash_key _ _ all.keyed left right)
+  unfolding node
+  node-str zero a b h = one-time-str hash o all code.count code.top (λ j. 0) (secret hash o _) (λ k lt. secret-str _ k) _
+  node-str (suc d) a b h = parent-str hash o all a _ _ (omega arith) (node-str d (suc a) (2 * b) (omega arith)) (node-str d (suc a) (2 * b + 1) (omega arith))
 
   -- what a release shows
   pub shown-str : o.height ≤ 8 → code.levels ≤ 8 → (i : ℕ) (stamp : List ℕ) (k : ℕ) → k < code.count + o.height → Str (shown_string hash code o i stamp k)
   shown-str tall few i stamp k within =
       let e = k - code.count in
-      ⊎_elim
-      (λ (lt : k < code.count). subst Str (sym (cond-true (ltb k code.count) _ _ (lt-ltb k code.count lt))) (chain-str i k (code.digit stamp k)))
-      (λ (le : code.count ≤ k). subst Str (sym (cond-false (ltb k code.count) _ _ (le-ltb k code.count le))) (node-str (o.height + code.levels - (o.height - e)) (o.height - e) (sibling_of (i / 2 ^ e)) (omega arith)))
-      (cases_lt k code.count)
+      cond_both (ltb k code.count) _ _ Str
+      (λ lt. chain-str i k (code.digit stamp k))
+      (λ ge. node-str (o.height + code.levels - (o.height - e)) (o.height - e) (sibling_of (i / 2 ^ e)) (omega arith))

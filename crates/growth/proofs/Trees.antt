@@ -1,6 +1,6 @@
 -- The nodes of a tree, level by level, and what is held of them after one leaf more.
 -- Assumes nothing.
-use Rattle.std.proofs.Common.{◌≡◌, ℕ, zero, suc, ◌+◌, ◌-◌, ◌*◌, ◌/◌, ◌%◌, ◌^◌, ◌<◌, ◌≤◌, cond, ◌&&◌, eqb, leb, List, replicate, sym, refl, ap, ◌∙◌, ⊎_elim, mul-le-mul_right, mul_assoc, mul_comm, add-mul, one-mul, zero-mul, arith, pow_pos}
+use Rattle.std.proofs.Common.{◌≡◌, ℕ, zero, suc, ◌+◌, ◌-◌, ◌*◌, ◌/◌, ◌%◌, ◌^◌, ◌<◌, ◌≤◌, cond, ◌&&◌, eqb, leb, List, replicate, sym, refl, ap, ◌∙◌, ⊎_elim, mul_assoc, mul_comm, zero-mul, arith, rules, pow_pos}
 use native.Mathlib.Nat.{zero-div, div_self}
 use lib.Arith.{digits_div, digits_mod}
 use Rattle.strings.proofs.Laws.{string_at-zeros}
@@ -27,8 +27,8 @@ module _ (hash : Hash) (code : Code) (o : Origin) where
       ∙ (λ j. leaf_string hash code o (sym (digits_div i {m = size} {r = k} h) j) (sym (digits_mod i {m = size} {r = k} h) j)))
       ∙ ap (λ d. node (parent_at hash o) (bottom hash code o) o.height d i) deep
 
-  -- a node above the leaves is the parent of the two below it
-  pub node-up : (a b : ℕ) → a < o.height → node_at hash code o a b ≡ parent_at hash o a (node_at hash code o (a + 1) (2 * b)) (node_at hash code o (a + 1) (2 * b + 1))
+  -- a node above the bottom is the parent of the two below it
+  pub node-up : (a b : ℕ) → a < o.height + code.levels → node_at hash code o a b ≡ parent_at hash o a (node_at hash code o (a + 1) (2 * b)) (node_at hash code o (a + 1) (2 * b + 1))
   node-up a b h =
       let d = o.height + code.levels - (a + 1) in
       let up : o.height + code.levels - a ≡ d + 1 = omega arith in
@@ -39,11 +39,7 @@ abbrev pub Fills : ℕ → ℕ → ℕ → Type 0
 Fills g m j = g + 1 ≡ (m + 1) * 2 ^ j
 
 pub last-filled : (g m j : ℕ) → Fills g m j → filled g j ≡ m
-last-filled g m j e =
-    let p = 2 ^ j in
-    let pos = pow_pos j in
-    let is : g ≡ m * p + (p - 1) = omega (arith, add-mul m 1 p, one-mul p) in
-    ap (λ n. n / p) is ∙ digits_div m (omega arith)
+last-filled g m j e = search rules
 
 next-filled : (g m j : ℕ) → Fills g m j → filled (g + 1) j ≡ m + 1
 next-filled g m j e = ap (λ n. n / 2 ^ j) e ∙ shl-shr (m + 1) j
@@ -106,14 +102,7 @@ module _ (hash : Hash) (code : Code) (o : Origin) (g m level : ℕ) (within : le
 
   -- an odd m is not at the root's level
   pub not_root : g < 2 ^ o.height → m % 2 ≡ 1 → 0 < level
-  not_root room odd =
-      ⊎_elim (λ (some : 0 < level). some)
-      (λ (none : level ≤ 0).
-      let top : o.height - level ≡ o.height = omega arith in
-      let all = fills ∙ ap (λ j. (m + 1) * 2 ^ j) top in
-      let two : 2 ≤ m + 1 = omega arith in
-      absurd (omega (arith, mul-le-mul_right (2 ^ o.height) two, pow_pos o.height)))
-      (cases_lt 0 level)
+  not_root room odd = search rules
 
   -- an odd m joins, and goes on a level above
   pub fills_up : 0 < level → m % 2 ≡ 1 → Fills g (m / 2) (o.height - (level - 1))

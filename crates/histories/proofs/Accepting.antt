@@ -2,6 +2,7 @@
 -- Assumes nothing.
 use Rattle.std.proofs.Common.{◌≡◌, ℕ, ◌+◌, ◌*◌, ◌^◌, ◌<◌, ◌≤◌, true, not, List, length, take, Ok, sym, refl, ap, ◌∙◌}
 use Rattle.std.specs.Str.{bytes_eq}
+use Rattle.std.proofs.lemmas.Bool.{cond-false}
 use Rattle.std.proofs.lemmas.Slice.Eq.{bytes_eq-Decides}
 use Rattle.growth.specs.Shown.{shown_string, shown_row}
 use Rattle.growth.specs.declared.origin.Origin.{Origin}
@@ -14,7 +15,7 @@ use Rattle.verifier.specs.Reads.{KeyParts}
 use Rattle.verifier.specs.Records.{release_bytes, root_of}
 use Rattle.verifier.specs.Rules.{suited, refuse, root_shown, verify_rule}
 use Rattle.verifier.specs.declared.refusal.Refusal.TheVariants.{Root}
-use Rattle.verifier.proofs.Facts.{after-at, goes, suited-from}
+use Rattle.verifier.proofs.Facts.{after-at, suited-from}
 use Rattle.verifier.proofs.Reading.{written-opens, written-key, written-masks, written-root, written-reads}
 use Rattle.histories.specs.Rules.{key_record, own_key, Rooted, Accepts}
 use Rattle.histories.specs.States.{Signing}
@@ -52,7 +53,7 @@ module _ (hash : Hash) (code : Code) (s : Signing) (all : Strings hash s.origin)
       let same : root ≡ root_of (key_record hash code s) = key-shows stamp i row ∙ release-leads hash code s.origin all tall.1 few i stamp left low ∙ sym rooted ∙ sym key-root in
       after-at _ shown (λ release. refuse (not (bytes_eq (root_shown hash code (own_key hash code s) stamp release) (root_of (key_record hash code s)))) Root (Ok release.leaf))
       (written-reads hash.number code (own_key hash code s) i row many key-suits (record { numbered = left; filled = row-filled hash code s.origin i stamp all tall.1 few }))
-      ∙ goes (not (bytes_eq root (root_of (key_record hash code s)))) Root (Ok i) (ap not ((bytes_eq-Decides root (root_of (key_record hash code s))).1 same))
+      ∙ cond-false (not (bytes_eq root (root_of (key_record hash code s)))) _ _ (ap not ((bytes_eq-Decides root (root_of (key_record hash code s))).1 same))
 
   pub accepting : (i : ℕ) (stamp : List ℕ) → code.count ≤ 256 → ((k : ℕ) → code.digit stamp k ≤ code.top) → Rooted hash code s → i < 2 ^ s.origin.height → Accepts hash code s stamp (release_bytes i (shown_row hash code s.origin i stamp)) i
   accepting i stamp many low rooted left =

@@ -1,34 +1,28 @@
 -- Under the signer's own key, verify reads as the signer does, and rebuilds under all of its masks.
 -- Assumes nothing.
-use Rattle.std.proofs.Common.{◌≡◌, ℕ, zero, suc, ◌+◌, ◌-◌, ◌*◌, ◌/◌, ◌%◌, ◌<◌, ◌≤◌, cond, not, eqb, List, length, take, Ok, sym, ap, ◌∙◌, add-one, arith}
+use Rattle.std.proofs.Common.{◌≡◌, ℕ, zero, suc, ◌+◌, ◌-◌, ◌*◌, ◌/◌, ◌%◌, ◌<◌, ◌≤◌, cond, not, eqb, List, length, take, Ok, Err, refl, ap, ◌∙◌, arith}
 use Rattle.std.specs.Str.{bytes_eq}
-use Rattle.std.proofs.lemmas.Bool.{not_from_true}
+use Rattle.std.proofs.lemmas.Bool.{cond-false, not_from_true}
 use Rattle.growth.proofs.Leads.{node-under}
 use Rattle.growth.proofs.Strings.{Strings, at_take}
 use Rattle.strings.specs.Strings.{xor, string_at}
 use Rattle.tree.specs.Meaning.{Hash, Code}
 use Rattle.tree.specs.Nodes.{join, node, climb, one_time}
 use Rattle.tree.specs.Rebuilt.{rebuilt}
-use Rattle.tree.proofs.Laws.{climb-root, climb-more}
 use Rattle.verifier.specs.Rules.{header_rule, suited, parts_rule, own_rule, refuse, after, root_shown, verify_rule}
 use Rattle.verifier.specs.declared.refusal.Refusal.TheVariants.{Parameters, Root}
-use Rattle.verifier.proofs.Facts.{goes}
 use Rattle.histories.specs.Rules.{own_key}
 use Rattle.histories.specs.States.{Signing}
 use Rattle.histories.proofs.Accepting.{key-suits, key-shows, key-root}
 
 -- the way up depends on the parents at its own levels alone
 climb-under : (p q : ℕ → List ℕ → List ℕ → List ℕ) (sibling : ℕ → List ℕ) (n : ℕ) → ((c : ℕ) (l r : List ℕ) → c < n → p c l r ≡ q c l r) → (a b : ℕ) (s : List ℕ) → a ≤ n → climb p sibling a b s ≡ climb q sibling a b s
-climb-under p q sibling n same zero b s h = climb-root p sibling b s ∙ sym (climb-root q sibling b s)
+unfolding climb
+climb-under p q sibling n same zero b s h = refl
 climb-under p q sibling n same (suc a) b s h =
-    let t = sibling (a + 1) in
+    let t = sibling (suc a) in
     let lt : a < n = omega arith in
-    ap (λ m. climb p sibling m b s) (sym (add-one a))
-    ∙ climb-more p sibling a b s
-    ∙ climb-under p q sibling n same a (b / 2) _ (omega arith)
-    ∙ (λ i. climb q sibling a (b / 2) (cond (eqb (b % 2) 0) (same a s t lt i) (same a t s lt i)))
-    ∙ sym (climb-more q sibling a b s)
-    ∙ ap (λ m. climb q sibling m b s) (add-one a)
+    climb-under p q sibling n same a (b / 2) _ (omega arith) ∙ (λ i. climb q sibling a (b / 2) (cond (eqb (b % 2) 0) (same a s t lt i) (same a t s lt i)))
 
 -- and so does the root that a record leads to: masks past its levels are not used
 rebuilt-under : (hash : Hash) (code : Code) (key masks : List ℕ) (h i : ℕ) (stamp row : List ℕ) → 32 * (h + code.levels) ≤ length masks → rebuilt hash code key (take (32 * (h + code.levels)) masks) h i stamp row ≡ rebuilt hash code key masks h i stamp row
@@ -58,5 +52,5 @@ module _ (hash : Hash) (code : Code) (s : Signing) (all : Strings hash s.origin)
   own-reads stamp bytes =
       let root = key-root hash code s all tall few long in
       let parts = parts_rule code.count s.origin.height bytes in
-      let reads = goes (not (suited hash.number code.number code.levels (own_key hash code s))) Parameters parts (not_from_true _ (key-suits hash code s all tall few long)) in
+      let reads = cond-false (not (suited hash.number code.number code.levels (own_key hash code s))) (Err Parameters) parts (not_from_true _ (key-suits hash code s all tall few long)) in
       λ i. after (after (header_rule 2 bytes) (λ body. reads i)) (λ release. refuse (not (bytes_eq (own-shows stamp release.leaf release.row i) (root i))) Root (Ok release.leaf))

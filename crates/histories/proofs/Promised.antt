@@ -2,6 +2,7 @@
 -- Assumes nothing.
 use Rattle.std.proofs.Common.{◌≡◌, ℕ, ◌<◌, ◌≤◌, List, get_or, Some, None, Ok, Option, sym, refl, ap, ◌∙◌, subst, ⊎_elim, arith}
 use Rattle.std.proofs.ByRecursion.{All-drop}
+use Rattle.std.proofs.lemmas.Option.{none-some, same_Some}
 use Rattle.compare.specs.Found.{Found, node_break, chain_break, unrevealed, ours, verdict_numbers, verdict_report}
 use Rattle.compare.specs.Search.{found}
 use Rattle.compare.specs.Sides.{Traced, revealed_height}
@@ -27,7 +28,7 @@ use Rattle.histories.proofs.Given.{Given, accepted, own-verified, given}
 use Rattle.histories.proofs.Laws.{Laws, lawful}
 use Rattle.histories.proofs.Living.{sound}
 use Rattle.histories.proofs.Once.{once}
-use Rattle.histories.proofs.Sound.{Sound, none-some, some_same}
+use Rattle.histories.proofs.Sound.{Sound}
 
 -- of the verdicts, ours alone has number 0
 says-ours : (v : Verdict) (i y z : ℕ) → verdict_numbers i v ≡ (0, y, z) → v ≡ Ours
@@ -52,7 +53,7 @@ module _ (hash : Hash) (code : Code) (laws : Laws hash code) (o : Origin) (w : H
   unseen i k e (Some m) at below =
       ⊎_elim
       (λ top. let low = laws.within m k (entered-str i m at) in omega arith)
-      (λ shown. let same : code.digit m k ≡ code.digit shown.1 k = ap (λ n. code.digit n k) (some_same (sym at ∙ (x.issued i shown.0 shown.1 shown.2).row)) in omega (arith, shown.3))
+      (λ shown. let same : code.digit m k ≡ code.digit shown.1 k = ap (λ n. code.digit n k) (same_Some _ _ (sym at ∙ (x.issued i shown.0 shown.1 shown.2).row)) in omega (arith, shown.3))
   unseen i k e None at below =
       ⊎_elim
       (λ top. omega arith)

@@ -2,7 +2,7 @@
 -- Assumes nothing.
 use Rattle.std.proofs.Common.{◌≡◌, ℕ, zero, suc, ◌+◌, ◌-◌, ◌^◌, ◌<◌, ◌≤◌, Bool, true, false, cond, ◌||◌, ◌⊎◌, List, [], ◌∷◌, length, get_or, take, set, replicate, Some, None, Ok, Err, Option, sym, refl, ap, ◌∙◌, subst, inl, inr, ⊎_elim, arith, pow_mono}
 use Rattle.std.proofs.lemmas.List.{length-set, get_or-set_same, get_or-set_other, take_at}
-use Rattle.std.proofs.lemmas.Bool.{cond-false, or_parts, eqb-false, false≢true, cases_eq}
+use Rattle.std.proofs.lemmas.Bool.{cond-false, or_parts, eqb-false, cases_eq}
 use Rattle.growth.specs.Grown.{node_at, Holds}
 use Rattle.growth.specs.Shown.{shown_row}
 use Rattle.growth.specs.declared.origin.Origin.{Origin}
@@ -12,7 +12,7 @@ use Rattle.strings.specs.Strings.{Str, string_at}
 use Rattle.tree.specs.Meaning.{Hash, Code}
 use Rattle.verifier.specs.Records.{release_bytes}
 use Rattle.verifier.specs.declared.refusal.Refusal.TheVariants.{Spent, Output}
-use Rattle.verifier.proofs.Facts.{ok-err, ok_same}
+use Rattle.std.proofs.lemmas.Option.{none-some, same_Some}
 use Rattle.histories.specs.Histories.{Event, grow, finish, key, sign, skip, retire, trace, History, Begun, Issued, here, there}
 use Rattle.histories.specs.Rules.{Rooted, leaf_more, leaves_more, finish_rule, release_size, release_record, all_spent, no_room, sign_answer, sign_output}
 use Rattle.histories.specs.States.{Making, Signing}
@@ -78,28 +78,22 @@ unissued-begun i bytes stamp x = elim x [ ]
 pub unissued-on : (e : Event) (w : History) → Idle e → Unissued w → Unissued (e ∷ w)
 unissued-on e w idle none i bytes stamp x = ⊎_elim (none i bytes stamp) (idle i bytes stamp) (newest x)
 
--- rows of a ledger
-pub none-some : (stamp : List ℕ) → None ≡ Some stamp → ⊥
-none-some stamp p = let z : ◌≡◌ {A = ℕ} 0 1 = cc in omega arith
-
-pub some_same : {x y : List ℕ} → ◌≡◌ {A = Option (List ℕ)} (Some x) (Some y) → x ≡ y
-some_same p = cc
-
-all-empty : (n i : ℕ) (stamp : List ℕ) → get_or (replicate n None) i None ≡ Some stamp → ⊥
-all-empty zero i stamp row = none-some stamp row
-all-empty (suc n) zero stamp row = none-some stamp row
-all-empty (suc n) (suc i) stamp row = all-empty n i stamp row
+-- a row of a ledger with nothing in it
+pub none_at : (n i : ℕ) → get_or {A = Option (List ℕ)} (replicate n None) i None ≡ None
+none_at zero i = refl
+none_at (suc n) zero = refl
+none_at (suc n) (suc i) = none_at n i
 
 -- the two tests of a sign call
 pub sign-refused : (a b : Bool) (x y : ℕ × ℕ) → (a || b) ≡ true → cond a (Err Spent) (cond b (Err Output) (Ok x)) ≡ Ok y → ⊥
-sign-refused true b x y p q = ok-err q
-sign-refused false true x y p q = ok-err q
-sign-refused false false x y p q = false≢true p
+sign-refused true b x y p q = cc
+sign-refused false true x y p q = cc
+sign-refused false false x y p q = cc
 
 pub sign-answered : (a b : Bool) (x y : ℕ × ℕ) → cond a (Err Spent) (cond b (Err Output) (Ok x)) ≡ Ok y → x ≡ y
-sign-answered true b x y q = absurd (ok-err q)
-sign-answered false true x y q = absurd (ok-err q)
-sign-answered false false x y q = ok_same q
+sign-answered true b x y q = cc
+sign-answered false true x y q = cc
+sign-answered false false x y q = cc
 
 module _ (hash : Hash) (code : Code) (o : Origin) where
   -- a call that issues nothing, and at most raises the next leaf
@@ -149,7 +143,7 @@ module _ (hash : Hash) (code : Code) (laws : Laws hash code) where
           within = omega arith;
           long = refl;
           issued = λ i bytes stamp y. absurd (unissued-on finish w (λ j b m fresh. fresh) none i bytes stamp y);
-          entered = λ i stamp row. absurd (all-empty 256 i stamp row);
+          entered = λ i stamp row. absurd (none-some stamp (sym (none_at 256 i) ∙ row));
         }
 
     -- a sign call that is not refused
@@ -209,7 +203,7 @@ module _ (hash : Hash) (code : Code) (laws : Laws hash code) where
             entered = λ i m row.
                 ⊎_elim
                 (λ (is : s.next ≡ i).
-                let same : stamp ≡ m = some_same (sym here-row ∙ ap (λ k. get_or next.rows k None) is ∙ row) in
+                let same : stamp ≡ m = same_Some _ _ (sym here-row ∙ ap (λ k. get_or next.rows k None) is ∙ row) in
                 subst (λ k. Issued (event ∷ w) k (release_bytes k (shown_row hash code s.origin k m)) m) is
                 (subst (λ u. Issued (event ∷ w) s.next (release_bytes s.next (shown_row hash code s.origin s.next u)) u) same
                 (here w stamp out _ _ _ (release_size code s) s.next answers (sym writes))))

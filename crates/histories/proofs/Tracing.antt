@@ -2,7 +2,7 @@
 -- Assumes nothing.
 use Rattle.std.proofs.Common.{◌≡◌, ℕ, ◌^◌, true, false, not, eqb, leb, List, length, Ok, Err, Result, sym, ap, ◌∙◌, subst}
 use Rattle.std.specs.Str.{bytes_eq}
-use Rattle.std.proofs.lemmas.Bool.{cond-true, not_from_true, not_from_false}
+use Rattle.std.proofs.lemmas.Bool.{cond-true, cond-false, not_from_true, not_from_false}
 use Rattle.compare.specs.Found.{Found, verdict_numbers, verdict_report}
 use Rattle.compare.specs.Search.{found}
 use Rattle.compare.specs.declared.verdict.Verdict.{Verdict}
@@ -14,7 +14,7 @@ use Rattle.verifier.specs.Records.{release_length, leaf_of, row_of}
 use Rattle.verifier.specs.Rules.{verify_rule, after, refuse, header_rule, own_rule}
 use Rattle.verifier.specs.declared.refusal.Refusal.{Refusal}
 use Rattle.verifier.specs.declared.refusal.Refusal.TheVariants.{Layout, Leaf, Root}
-use Rattle.verifier.proofs.Facts.{after-at, after-ok, passes, goes, stops, ok_same}
+use Rattle.verifier.proofs.Facts.{after-at, after-ok, passes, stops, ok_same}
 use Rattle.histories.specs.Rules.{own_key, traced_by, trace_answer, report_after, trace_report, Finds}
 use Rattle.histories.specs.States.{Signing}
 
@@ -61,7 +61,7 @@ module _ (hash : Hash) (code : Code) (s : Signing) (stamp bytes report : List �
       misled differ = tested ∙ cond-true (not (bytes_eq root s.root)) _ _ (not_from_false _ differ)
 
       pub led : bytes_eq root s.root ≡ true → verified ≡ Ok shown.leaf
-      led same = tested ∙ goes (not (bytes_eq root s.root)) Root _ (not_from_true _ same)
+      led same = tested ∙ cond-false (not (bytes_eq root s.root)) _ _ (not_from_true _ same)
 
       -- the strings read are those that follow the leaf number
       pub row_read : shown.row ≡ row_of bytes

@@ -1,9 +1,9 @@
 -- Hash values over the blocks of a message, and of a message in two parts.
 -- Assumes nothing.
 use Rattle.std.proofs.Common.{◌≡◌, ℕ, zero, suc, ◌+◌, ◌-◌, ◌*◌, ◌/◌, ◌<◌, ◌≤◌, List, [], ◌++◌, length, get_or, take, drop, sym, refl, ap, ◌∙◌, add-zero, add-suc, add-one, arith}
-use Rattle.std.proofs.lemmas.List.{length-append, length-drop, take-append-le, drop-append-le, drop-drop}
+use Rattle.std.proofs.lemmas.List.{length-append, length-drop, drop-append-le, drop-drop}
 use Rattle.std.specs.Simd.{first_chunks}
-use Rattle.strings.proofs.Laws.{chunk_at}
+use Rattle.strings.proofs.Laws.{chunk_at, piece-front}
 use Rattle.sha256.specs.declared.state.State.{State}
 use Rattle.sha256.specs.Compress.{compress}
 use Rattle.sha256.specs.Constants.{initial}
@@ -22,19 +22,13 @@ pub hashed-chunk : (n k : ℕ) (start s r : State) (bytes : List ℕ) (chunks : 
 hashed-chunk n k start s r bytes chunks before h is e =
     hashed-more n start s r bytes before (e ∙ ap (compress s) (ap (λ l. get_or l n []) is ∙ chunk_at 64 k n bytes h))
 
-piece-front : (w at : ℕ) (xs ys : List ℕ) → at + w ≤ length xs → take w (drop at (xs ++ ys)) ≡ take w (drop at xs)
-piece-front w at xs ys h =
-    let within : at ≤ length xs = omega arith in
-    let long : w ≤ length (drop at xs) = rw length-drop (omega arith) in
-    ap (take w) (drop-append-le at xs ys within) ∙ take-append-le w (drop at xs) ys long
-
 -- what follows the first n blocks does not matter to them
 hashed-front : (n : ℕ) (s : State) (xs ys : List ℕ) → 64 * n ≤ length xs → hashed n s (xs ++ ys) ≡ hashed n s xs
 unfolding hashed
 hashed-front zero s xs ys h = refl
 hashed-front (suc n) s xs ys h =
     let before = hashed-front n s xs ys (omega arith) in
-    let block = piece-front 64 (64 * n) xs ys (omega arith) in
+    let block = piece-front 64 xs ys (64 * n) (omega arith) in
     λ i. compress (before i) (block i)
 
 -- n blocks, then k more

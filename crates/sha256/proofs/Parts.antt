@@ -1,9 +1,11 @@
 -- What a buffer holds after parts are written into it.
 -- Assumes nothing.
+use Rattle.std.proofs.lemmas.Grind.{common_steps}
 use Rattle.std.proofs.Common.{◌≡◌, ℕ, ◌+◌, ◌-◌, ◌*◌, ◌<◌, ◌≤◌, List, [], ◌∷◌, ◌++◌, length, get_or, take, drop, set, replicate, sym, ap, ◌∙◌, arith}
 use Rattle.std.specs.List.{flat_map}
+use Rattle.std.proofs.Math.Seq.{take-add}
 use Rattle.strings.proofs.Laws.{part-more}
-use Rattle.std.proofs.lemmas.List.{append_assoc, take_more, take_more_set, take-append-drop, take-take, drop-take, drop-drop, drop-set-lt, drop-replicate, take-replicate, flat_map_more}
+use Rattle.std.proofs.lemmas.List.{append_assoc, take_more_set, drop-drop, drop-set-lt, drop-replicate, take-replicate}
 
 -- a tag of 4 bytes and two strings, written one after another
 pub three-parts : (b₁ b₂ b₃ tag key s : List ℕ) → length key ≡ 16 → length s ≡ 16 → take 4 b₁ ≡ tag → take (4 + length key) b₂ ≡ take 4 b₁ ++ key → take (20 + length s) b₃ ≡ take 20 b₂ ++ s → take 36 b₃ ≡ tag ++ (key ++ s)
@@ -13,16 +15,7 @@ three-parts b₁ b₂ b₃ tag key s lk ls e₁ e₂ e₃ =
 
 -- pieces of 4 bytes, one for each element of ws
 pub pieces_more : (f : ℕ → List ℕ) (ws b b' part : List ℕ) (i : ℕ) → i < length ws → take (4 * i + length part) b' ≡ take (4 * i) b ++ part → take (4 * i) b ≡ flat_map f (take i ws) → part ≡ f (get_or ws i 0) → length part ≡ 4 → take (4 * (i + 1)) b' ≡ flat_map f (take (i + 1) ws)
-pieces_more f ws b b' part i h is before piece four =
-    part-more b b' (flat_map f (take i ws)) part (4 * i) (4 * (i + 1)) is before (omega arith)
-    ∙ ap (λ q. flat_map f (take i ws) ++ q) piece
-    ∙ flat_map_more f [] (take i ws) (get_or ws i 0)
-    ∙ ap (flat_map f) (sym (take_more ws i 0 h))
-
-split : (n k : ℕ) (xs : List ℕ) → take (n + k) xs ≡ take n xs ++ take k (drop n xs)
-split n k xs =
-    sym (take-append-drop n (take (n + k) xs))
-    ∙ (λ i. take-take n (n + k) xs (omega arith) i ++ drop-take n k xs i)
+pieces_more f ws b b' part i h is before piece four = grind (arith, common_steps)
 
 -- a buffer of zeros with the part p written at its front (b), then the byte x after it, and, from at on, the part q (c)
 pub padded-buffer : (w x z at : ℕ) (b c p q : List ℕ) → take (length p) b ≡ p → drop (length p) b ≡ drop (length p) (replicate w 0) → length p < length b → at ≡ length p + 1 + z → at ≤ w → take (at + length q) c ≡ take at (set b (length p) x) ++ q → take (at + length q) c ≡ p ++ (x ∷ (replicate z 0 ++ q))
@@ -32,7 +25,7 @@ padded-buffer w x z at b c p q front back room is fits end =
     let one : n < n + 1 = omega arith in
     let rest : drop (n + 1) (set b n x) ≡ replicate (w - n - 1) 0 = drop-set-lt (n + 1) b n x one ∙ sym (drop-drop 1 n b) ∙ ap (drop 1) (back ∙ drop-replicate n w 0) ∙ drop-replicate 1 (w - n) 0 in
     let zs : take z (drop (n + 1) (set b n x)) ≡ replicate z 0 = ap (take z) rest ∙ take-replicate z (w - n - 1) 0 (omega arith) in
-    let whole : take at (set b n x) ≡ (p ++ x ∷ []) ++ replicate z 0 = ap (λ k. take k (set b n x)) is ∙ split (n + 1) z (set b n x) ∙ (λ i. head i ++ zs i) in
+    let whole : take at (set b n x) ≡ (p ++ x ∷ []) ++ replicate z 0 = ap (λ k. take k (set b n x)) is ∙ take-add (n + 1) z (set b n x) ∙ (λ i. head i ++ zs i) in
     end
     ∙ ap (λ r. r ++ q) whole
     ∙ append_assoc (p ++ x ∷ []) (replicate z 0) q

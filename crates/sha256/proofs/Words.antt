@@ -1,14 +1,13 @@
 -- The message schedule, word by word.
 -- Assumes nothing.
+use Rattle.std.proofs.lemmas.Grind.{common_steps}
 use Rattle.std.proofs.Common.{◌≡◌, ℕ, ◌+◌, ◌-◌, ◌*◌, ◌^◌, ◌<◌, ◌≤◌, List, [], ◌∷◌, ◌++◌, map, length, get_or, take, drop, set, sym, refl, ap, ◌∙◌, add-one, arith}
 use Rattle.std.specs.List.{range_with_len}
 use Rattle.std.proofs.lemmas.List.FromFn.{fill_by_all}
-use Rattle.std.proofs.lemmas.List.Edits.{fill_by_more}
 use Rattle.std.proofs.lemmas.List.{length-take-le, get_or-take, get_or-drop, take_more_set}
 use Rattle.std.specs.Simd.{first_chunks}
 use Rattle.strings.proofs.Laws.{chunk_at}
 use Rattle.sha256.specs.Compress.{word_at, next_word, longer, extended}
-use Rattle.sha256.specs.Functions.{◌⊞◌, small_sigma0, small_sigma1}
 
 -- a word is made of the four bytes of its chunk
 pub word-chunk : (block : List ℕ) (t k : ℕ) (chunks : List (List ℕ)) → t < k → chunks ≡ first_chunks 4 k block → (let w = get_or chunks t [] in get_or w 0 0 * 2 ^ 24 + get_or w 1 0 * 2 ^ 16 + get_or w 2 0 * 2 ^ 8 + get_or w 3 0) ≡ word_at block t
@@ -21,10 +20,6 @@ word-chunk block t k chunks h is =
     let b2 = at 2 (4 * t + 2) (omega arith) (omega arith) in
     let b3 = at 3 (4 * t + 3) (omega arith) (omega arith) in
     λ i. b0 i * 2 ^ 24 + b1 i * 2 ^ 16 + b2 i * 2 ^ 8 + b3 i
-
--- a row that is filled by f below i, and at i
-pub filled_more : (f : ℕ → ℕ) (xs : List ℕ) (i x : ℕ) → i < length xs → x ≡ f i → ((k : ℕ) → k < i → get_or xs k 0 ≡ f k) → (k : ℕ) → k < i + 1 → get_or (set xs i x) k 0 ≡ f k
-filled_more f xs i x h is below k l = ap (λ y. get_or (set xs i y) k 0) is ∙ fill_by_more f xs i 0 h below k l
 
 -- a row whose first n places are filled by f
 pub front-filled : (f : ℕ → ℕ) (xs : List ℕ) (n : ℕ) → n ≤ length xs → ((k : ℕ) → k < n → get_or xs k 0 ≡ f k) → take n xs ≡ map f (range_with_len 0 n)
@@ -40,13 +35,7 @@ extended-more n w = rw (add-one n)
 
 -- the next word reads only words before it
 next-take : (w : List ℕ) (t : ℕ) → 16 ≤ t → next_word w t ≡ next_word (take t w) t
-next-take w t h =
-    let at : (k : ℕ) → k < t → get_or w k 0 ≡ get_or (take t w) k 0 = λ k l. sym (get_or-take t w k 0 l) in
-    let e2 = at (t - 2) (omega arith) in
-    let e7 = at (t - 7) (omega arith) in
-    let e15 = at (t - 15) (omega arith) in
-    let e16 = at (t - 16) (omega arith) in
-    λ i. small_sigma1 (e2 i) ⊞ e7 i ⊞ small_sigma0 (e15 i) ⊞ e16 i
+next-take w t h = grind (arith, common_steps)
 
 -- the schedule w of the block's words b, filled below t, is filled below t + 1
 pub extended-step : (w b : List ℕ) (t x : ℕ) → 16 ≤ t → t < length w → take t w ≡ extended (t - 16) b → x ≡ next_word w t → take (t + 1) (set w t x) ≡ extended (t + 1 - 16) b

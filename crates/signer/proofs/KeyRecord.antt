@@ -26,15 +26,7 @@ five-parts b₀ b₁ b₂ b₃ b₄ b₅ p₁ p₂ p₃ p₄ p₅ size big room 
 -- the parts of a framed record with a length, a kind and four parts of body
 pub framed_is : (len kind p₃ p₄ p₅ p₆ : List ℕ) (size k : ℕ) → size ≡ 6 + length (p₃ ++ (p₄ ++ (p₅ ++ p₆))) → len ≡ little_endian 4 size → kind ≡ little_endian 2 k → ((((len ++ kind) ++ p₃) ++ p₄) ++ p₅) ++ p₆ ≡ framed k (p₃ ++ (p₄ ++ (p₅ ++ p₆)))
 framed_is len kind p₃ p₄ p₅ p₆ size k is e₁ e₂ =
-    append_assoc (((len ++ kind) ++ p₃) ++ p₄) p₅ p₆
-    ∙ append_assoc ((len ++ kind) ++ p₃) p₄ (p₅ ++ p₆)
-    ∙ append_assoc (len ++ kind) p₃ (p₄ ++ (p₅ ++ p₆))
-    ∙ append_assoc len kind (p₃ ++ (p₄ ++ (p₅ ++ p₆)))
-    ∙ (λ i. (e₁ ∙ ap (little_endian 4) is) i ++ (e₂ i ++ (p₃ ++ (p₄ ++ (p₅ ++ p₆)))))
+    simp append_assoc (λ i. (e₁ ∙ ap (little_endian 4) is) i ++ (e₂ i ++ (p₃ ++ (p₄ ++ (p₅ ++ p₆)))))
 
 pub four-long : (p₃ p₄ p₅ p₆ : List ℕ) (n : ℕ) → length p₃ ≡ 4 → length p₄ ≡ 16 → length p₅ ≡ n → length p₆ ≡ 16 → 42 + n ≡ 6 + length (p₃ ++ (p₄ ++ (p₅ ++ p₆)))
-four-long p₃ p₄ p₅ p₆ n l₃ l₄ l₅ l₆ =
-    let a = length-append p₃ (p₄ ++ (p₅ ++ p₆)) in
-    let b = length-append p₄ (p₅ ++ p₆) in
-    let c = length-append p₅ p₆ in
-    omega arith
+four-long p₃ p₄ p₅ p₆ n l₃ l₄ l₅ l₆ = simp length-append (omega arith)

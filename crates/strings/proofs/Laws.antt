@@ -1,15 +1,14 @@
 -- The laws of strings, and of rows of strings in a buffer.
 -- Assumes nothing.
-use Rattle.std.proofs.Common.{◌≡◌, ℕ, zero, suc, ◌+◌, ◌-◌, ◌*◌, ◌/◌, ◌%◌, ◌^◌, ◌<◌, ◌≤◌, ◌≢◌, List, [], ◌∷◌, ◌++◌, map, length, get_or, set, take, drop, replicate, sym, refl, ap, ◌∙◌, ⊎_elim, le_of_suc-le-suc, mod-lt, mod-eq_of_lt, zero-add, add-one, mul-zero, mul-suc, arith}
+use Rattle.std.proofs.Common.{◌≡◌, ℕ, zero, suc, ◌+◌, ◌-◌, ◌*◌, ◌/◌, ◌%◌, ◌^◌, ◌<◌, ◌≤◌, ◌≢◌, List, [], ◌∷◌, ◌++◌, map, length, get_or, set, take, drop, replicate, sym, refl, ap, ◌∙◌, le_of_suc-le-suc, mod-eq_of_lt, zero-add, add-one, mul-zero, mul-suc, arith, rules}
 use native.Mathlib.Nat.{mod-one, pow-succ', one-le-pow}
 use lib.Bits.{bit_xor, xor_assoc, xor_self, xor_zero_r, xor_lt}
 use lib.Arith.{mod-mul}
 use Rattle.std.specs.List.{range_with_len}
 use Rattle.std.specs.Simd.{first_chunks}
 use Rattle.std.proofs.lemmas.List.Edits.{fill_by_more}
-use Rattle.std.proofs.lemmas.List.{length-set, get_or-set_other, take-append-drop, length-append, length-take, length-drop, length-take-le, take_at, drop_at, take-take, take-append-le, drop-append-le, drop-drop, drop-take, append_assoc, same_from_push, drop-replicate, take-replicate}
-use Rattle.std.proofs.lemmas.Bool.{cases_lt}
-use Rattle.std.proofs.ByRecursion.{All-take, All-drop, All-from_get_or}
+use Rattle.std.proofs.lemmas.List.{places, same_lists, take-append-drop, length-append, take_at, drop_at, drop-drop, same_from_push, drop-replicate, take-replicate}
+use Rattle.std.proofs.ByRecursion.{All-take, All-drop, All-map, All-from_get_or}
 use Rattle.std.proofs.lemmas.List.FromFn.{length-map-range_with_len, map-range_with_len_more, fill_by_all}
 use Rattle.strings.specs.Strings.{Bytes, Str, zero_string, xor, little_endian, numeral, string_at, put_string}
 
@@ -24,14 +23,11 @@ get_or-xor (x ∷ s) [] k h g = absurd (omega arith)
 get_or-xor (x ∷ s) (y ∷ m) zero h g = refl
 get_or-xor (x ∷ s) (y ∷ m) (suc k) h g = get_or-xor s m k (le_of_suc-le-suc h) (le_of_suc-le-suc g)
 
-bit-back : (x y : ℕ) → bit_xor (bit_xor x y) y ≡ x
-bit-back x y = xor_assoc x y y ∙ ap (bit_xor x) (xor_self y) ∙ xor_zero_r x
-
 -- a mask takes itself away again
 pub xor-back : (s m : List ℕ) → xor (xor s m) m ≡ s
 xor-back [] m = refl
 xor-back (x ∷ s) [] = refl
-xor-back (x ∷ s) (y ∷ m) = λ i. bit-back x y i ∷ xor-back s m i
+xor-back (x ∷ s) (y ∷ m) = λ i. (xor_assoc x y y ∙ ap (bit_xor x) (xor_self y) ∙ xor_zero_r x) i ∷ xor-back s m i
 
 pub xor-injective : (s t m : List ℕ) → xor s m ≡ xor t m → s ≡ t
 xor-injective s t m e = sym (xor-back s m) ∙ ap (λ u. xor u m) e ∙ xor-back t m
@@ -44,12 +40,8 @@ xor_bytes (x ∷ s) (y ∷ m) a b = (xor_lt 8 x y a.0 b.0, xor_bytes s m a.1 b.1
 pub xor-str : (s m : List ℕ) → Str s → Str m → Str (xor s m)
 xor-str s m a b = (length-xor s m ∙ a.0, xor_bytes s m a.1 b.1)
 
-digits-bytes : (n : ℕ) (js : List ℕ) → Bytes (map (λ j. n / 256 ^ j % 256) js)
-digits-bytes n [] = tt
-digits-bytes n (j ∷ js) = (mod-lt (n / 256 ^ j) (omega arith), digits-bytes n js)
-
 pub bytes-little_endian : (k n : ℕ) → Bytes (little_endian k n)
-bytes-little_endian k n = digits-bytes n (range_with_len 0 k)
+bytes-little_endian k n = All-map (λ x. x < 256) (λ j. n / 256 ^ j % 256) (range_with_len 0 k) (All-from_get_or (λ j. n / 256 ^ j % 256 < 256) (range_with_len 0 k) 0 (λ i h. omega arith))
 
 pub length-little_endian : (k n : ℕ) → length (little_endian k n) ≡ k
 length-little_endian k n = length-map-range_with_len (λ j. n / 256 ^ j % 256) 0 k
@@ -58,7 +50,7 @@ pub numeral-str : (n : ℕ) → Str (numeral n)
 unfolding numeral
 numeral-str n = (length-little_endian 16 n, bytes-little_endian 16 n)
 
--- rows of pieces of any width w: what stands at piece i, and what a write to one piece leaves
+-- pieces of any width w: what stands at a piece, and what a write to one piece leaves
 module _ (w : ℕ) where
   abbrev piece : List ℕ → ℕ → List ℕ
   piece bytes at = take w (drop at bytes)
@@ -66,59 +58,30 @@ module _ (w : ℕ) where
   abbrev put : List ℕ → ℕ → List ℕ → List ℕ
   put bytes at s = take at bytes ++ (s ++ drop (at + w) bytes)
 
-  length-piece : (bytes : List ℕ) (at : ℕ) → at + w ≤ length bytes → length (piece bytes at) ≡ w
-  length-piece bytes at h = length-take-le w (drop at bytes) (rw length-drop (omega arith))
-
-  length-put : (bytes : List ℕ) (at : ℕ) (s : List ℕ) → at + w ≤ length bytes → length s ≡ w → length (put bytes at s) ≡ length bytes
-  length-put bytes at s h e = simp (length-append, length-drop, length-take) (omega arith)
+  -- a piece that lies in the front of a list
+  pub piece-front : (front rest : List ℕ) (at : ℕ) → at + w ≤ length front → piece (front ++ rest) at ≡ piece front at
+  piece-front front rest at h = same_lists _ _ (search (rules, places)) (λ j d lt. grind (arith, places))
 
   piece-put-same : (bytes : List ℕ) (at : ℕ) (s : List ℕ) → at + w ≤ length bytes → length s ≡ w → piece (put bytes at s) at ≡ s
-  piece-put-same bytes at s h e =
-      let front : length (take at bytes) ≡ at = length-take-le at bytes (omega arith) in
-      ap (take w) (drop_at (take at bytes) (s ++ drop (at + w) bytes) at front) ∙ take_at s (drop (at + w) bytes) w e
+  piece-put-same bytes at s h e = search (rules, drop_at, take_at)
 
-  piece-put-before : (bytes : List ℕ) (at k : ℕ) (s : List ℕ) → k + w ≤ at → at ≤ length bytes → piece (put bytes at s) k ≡ piece bytes k
-  piece-put-before bytes at k s h fits =
-      let r = at - k in
-      let whole : k + r ≡ at = omega arith in
-      let front : length (take at bytes) ≡ at = length-take-le at bytes fits in
-      let within : k ≤ length (take at bytes) = omega arith in
-      let mid : drop k (take at bytes) ≡ take r (drop k bytes) = ap (λ n. drop k (take n bytes)) (sym whole) ∙ drop-take k r bytes in
-      let long : w ≤ length (drop k (take at bytes)) = rw length-drop (omega arith) in
-      let room : w ≤ r = omega arith in
-      ap (take w) (drop-append-le k (take at bytes) (s ++ drop (at + w) bytes) within)
-      ∙ take-append-le w (drop k (take at bytes)) (s ++ drop (at + w) bytes) long
-      ∙ ap (take w) mid
-      ∙ take-take w r (drop k bytes) room
-
-  piece-put-after : (bytes : List ℕ) (at k : ℕ) (s : List ℕ) → at + w ≤ k → at ≤ length bytes → length s ≡ w → piece (put bytes at s) k ≡ piece bytes k
-  piece-put-after bytes at k s h fits e =
-      let r = k - (at + w) in
-      let whole : (at + w) + r ≡ k = omega arith in
-      let front : length (take at bytes) ≡ at = length-take-le at bytes fits in
-      let head : length (take at bytes ++ s) ≡ at + w = length-append (take at bytes) s ∙ omega arith in
-      let rest : drop (at + w) (put bytes at s) ≡ drop (at + w) bytes = ap (drop (at + w)) (sym (append_assoc (take at bytes) s (drop (at + w) bytes))) ∙ drop_at (take at bytes ++ s) (drop (at + w) bytes) (at + w) head in
-      let moved : (xs : List ℕ) → drop r (drop (at + w) xs) ≡ drop k xs = λ xs. drop-drop r (at + w) xs ∙ ap (λ n. drop n xs) whole in
-      ap (take w) (sym (moved (put bytes at s)) ∙ ap (drop r) rest ∙ moved bytes)
+  piece-put-other : (bytes : List ℕ) (at k : ℕ) (s : List ℕ) → at + w ≤ length bytes → length s ≡ w → (k < at + w → k + w ≤ at) → piece (put bytes at s) k ≡ piece bytes k
+  piece-put-other bytes at k s h e apart = same_lists _ _ (search (rules, places)) (λ j d lt. grind (arith, places))
 
 pub length-string_at : (bytes : List ℕ) (i : ℕ) → 16 * i + 16 ≤ length bytes → length (string_at bytes i) ≡ 16
-length-string_at bytes i h = length-piece 16 bytes (16 * i) h
+length-string_at bytes i h = search (rules, places)
 
 pub string_at-str : (bytes : List ℕ) (i : ℕ) → 16 * i + 16 ≤ length bytes → Bytes bytes → Str (string_at bytes i)
 string_at-str bytes i h b = (length-string_at bytes i h, All-take (λ x. x < 256) 16 (drop (16 * i) bytes) (All-drop (λ x. x < 256) (16 * i) bytes b))
 
 pub length-put_string : (bytes : List ℕ) (i : ℕ) (s : List ℕ) → 16 * i + 16 ≤ length bytes → length s ≡ 16 → length (put_string bytes i s) ≡ length bytes
-length-put_string bytes i s h e = length-put 16 bytes (16 * i) s h e
+length-put_string bytes i s h e = search (rules, places)
 
 pub at-put-same : (bytes : List ℕ) (i : ℕ) (s : List ℕ) → 16 * i + 16 ≤ length bytes → length s ≡ 16 → string_at (put_string bytes i s) i ≡ s
 at-put-same bytes i s h e = piece-put-same 16 bytes (16 * i) s h e
 
 pub at-put-other : (bytes : List ℕ) (i k : ℕ) (s : List ℕ) → 16 * i + 16 ≤ length bytes → length s ≡ 16 → k ≢ i → string_at (put_string bytes i s) k ≡ string_at bytes k
-at-put-other bytes i k s h e ne =
-    ⊎_elim
-    (λ (lt : k < i). piece-put-before 16 bytes (16 * i) (16 * k) s (omega arith) (omega arith))
-    (λ (le : i ≤ k). piece-put-after 16 bytes (16 * i) (16 * k) s (omega arith) (omega arith) e)
-    (cases_lt k i)
+at-put-other bytes i k s h e ne = piece-put-other 16 bytes (16 * i) (16 * k) s h e (λ lt. omega arith)
 
 -- a number below 256 ^ k is known by its k bytes
 pub little_endian-injective : (k m n : ℕ) → little_endian k m ≡ little_endian k n → m % 256 ^ k ≡ n % 256 ^ k
@@ -141,6 +104,10 @@ chunk_at w (suc k) zero xs h = ap (λ n. take w (drop n xs)) (sym (mul-zero w))
 chunk_at w (suc k) (suc i) xs h =
     chunk_at w k i (drop w xs) (le_of_suc-le-suc h) ∙ ap (take w) (drop-drop (w * i) w xs ∙ ap (λ n. drop n xs) (omega (arith, mul-suc w i)))
 
+-- a row that is filled by f below i, and at i
+pub filled_more : (f : ℕ → ℕ) (xs : List ℕ) (i x : ℕ) → i < length xs → x ≡ f i → ((k : ℕ) → k < i → get_or xs k 0 ≡ f k) → (k : ℕ) → k < i + 1 → get_or (set xs i x) k 0 ≡ f k
+filled_more f xs i x h is below k l = ap (λ y. get_or (set xs i y) k 0) is ∙ fill_by_more f xs i 0 h below k l
+
 -- a list that is edited place by place: f says what is new, and from place j on it is as it was
 abbrev pub Edited : (ℕ → ℕ) → List ℕ → List ℕ → ℕ → Type 0
 Edited f old new j = (length new ≡ length old) × ((k : ℕ) → k < j → get_or new k 0 ≡ f k) × ((k : ℕ) → j ≤ k → get_or new k 0 ≡ get_or old k 0)
@@ -149,11 +116,7 @@ pub edited-none : (f : ℕ → ℕ) (old : List ℕ) → Edited f old old 0
 edited-none f old = (refl, λ k h. absurd (omega arith), λ k h. refl)
 
 pub edited-more : (f : ℕ → ℕ) (old new : List ℕ) (j v : ℕ) → j < length old → v ≡ f j → Edited f old new j → Edited f old (set new j v) (j + 1)
-edited-more f old new j v h e s = (
-  length-set new j v ∙ s.0,
-  λ k g. ap (λ y. get_or (set new j y) k 0) e ∙ fill_by_more f new j 0 (omega arith) s.1 k g,
-  λ k g. get_or-set_other new j k v 0 (λ q. absurd (omega arith)) ∙ s.2 k (omega arith),
-)
+edited-more f old new j v h e s = search rules
 
 pub edited-all : (f : ℕ → ℕ) (old new : List ℕ) (n j : ℕ) → length old ≡ n → n ≤ j → Edited f old new j → new ≡ map f (range_with_len 0 n)
 edited-all f old new n j e h s = fill_by_all f new n 0 (s.0 ∙ e) (λ k g. s.1 k (omega arith))
@@ -182,10 +145,9 @@ pub written-more : (b₀ b b' p part : List ℕ) (at : ℕ) → Written b₀ b p
 written-more b₀ b b' p part at w here room front back =
     let n = length part in
     let long = length-append p part in
-    let head : take at b ≡ p = ap (take at) w.0 ∙ take_at p (drop (length p) b₀) at here in
     let rest : drop at b ≡ drop (length p) b₀ = ap (drop at) w.0 ∙ drop_at p (drop (length p) b₀) at here in
     let tail : drop (at + n) b ≡ drop (length (p ++ part)) b₀ =
     sym (drop-drop n at b) ∙ ap (drop n) rest ∙ drop-drop n (length p) b₀ ∙ ap (λ k. drop k b₀) (sym long) in (
-      sym (take-append-drop (at + n) b') ∙ (λ i. (front ∙ ap (λ q. q ++ part) head) i ++ (back ∙ tail) i),
+      sym (take-append-drop (at + n) b') ∙ (λ i. part-more b b' p part at (at + n) front (ap (take at) w.0 ∙ take_at p (drop (length p) b₀) at here) refl i ++ (back ∙ tail) i),
       omega arith,
     )

@@ -1,10 +1,10 @@
 -- The laws of chains, nodes and paths.
 -- Assumes nothing.
-use Rattle.std.proofs.Common.{◌≡◌, ℕ, zero, suc, ◌+◌, ◌-◌, ◌*◌, ◌/◌, ◌%◌, ◌^◌, ◌<◌, ◌≤◌, cond, List, sym, refl, ap, ◌∙◌, ⊎_elim, mul_assoc, mul_comm, add-mul, one-mul, add-one, arith, pow_mono, le-ltb, lt-ltb}
+use Rattle.std.proofs.Common.{◌≡◌, ℕ, zero, suc, ◌+◌, ◌-◌, ◌*◌, ◌/◌, ◌%◌, ◌^◌, ◌<◌, ◌≤◌, cond, List, replicate, sym, refl, ap, ◌∙◌, mul_assoc, mul_comm, add-mul, one-mul, add-one, arith, rules, pow_mono, le-ltb, lt-ltb}
 use native.Mathlib.Nat.{pow-succ'}
-use Rattle.std.proofs.lemmas.Nat.{one_shl}
-use Rattle.std.proofs.lemmas.Bool.{cases_lt}
+use Rattle.std.proofs.lemmas.Grind.{pow_more}
 use Rattle.strings.specs.Strings.{string_at, zero_string}
+use Rattle.strings.proofs.Laws.{string_at-zeros}
 use Rattle.tree.specs.Nodes.{raise, node, above, climb, one_time}
 
 pub raise-none : (step : List ℕ → List ℕ) (s : List ℕ) → raise step 0 s ≡ s
@@ -30,14 +30,17 @@ node-moved parent f g a zero b c same =
     ap f (omega arith) ∙ same 0 (omega arith) ∙ ap g (omega arith)
 node-moved parent f g a (suc d) b c same =
     let half = 2 ^ d in
-    let twice : 2 ^ suc d ≡ 2 * half = pow-succ' 2 d in
-    let spread : (n : ℕ) → n * 2 ^ suc d ≡ (2 * n) * half = λ n. ap (λ p. n * p) twice ∙ sym (mul_assoc n 2 half) ∙ ap (λ p. p * half) (mul_comm n 2) in
+    let spread : (n : ℕ) → n * 2 ^ suc d ≡ (2 * n) * half = λ n. ap (λ p. n * p) (pow-succ' 2 d) ∙ sym (mul_assoc n 2 half) ∙ ap (λ p. p * half) (mul_comm n 2) in
     let right : (n k : ℕ) → (2 * n + 1) * half + k ≡ n * 2 ^ suc d + (half + k) = λ n k. omega (arith, spread n, add-mul (2 * n) 1 half, one-mul half) in
     let left : (n k : ℕ) → (2 * n) * half + k ≡ n * 2 ^ suc d + k = λ n k. omega (arith, spread n) in
     λ i.
     parent a
     (node-moved parent f g (suc a) d (2 * b) (2 * c) (λ k h. ap f (left b k) ∙ same k (omega arith) ∙ sym (ap g (left c k))) i)
     (node-moved parent f g (suc a) d (2 * b + 1) (2 * c + 1) (λ k h. ap f (right b k) ∙ same (half + k) (omega arith) ∙ sym (ap g (right c k))) i)
+
+-- a node of a level and the string beside it have the parent of both above them
+pub above-both : (parent : ℕ → List ℕ → List ℕ → List ℕ) (f : ℕ → List ℕ) (a b : ℕ) (sibling : List ℕ) → (b % 2 ≡ 0 → sibling ≡ f (2 * (b / 2) + 1)) → ((b % 2 ≡ 0 → ⊥) → sibling ≡ f (2 * (b / 2))) → above parent a b (f b) sibling ≡ parent a (f (2 * (b / 2))) (f (2 * (b / 2) + 1))
+above-both parent f a b sibling right left = search rules
 
 pub climb-root : (parent : ℕ → List ℕ → List ℕ → List ℕ) (sibling : ℕ → List ℕ) (b : ℕ) (s : List ℕ) → climb parent sibling 0 b s ≡ s
 unfolding climb
@@ -55,17 +58,13 @@ module _ (step : List ℕ → List ℕ) (top : ℕ) (digit : ℕ → ℕ) (shown
   pub one-time-past : (count k : ℕ) → count ≤ k → one_time step count top digit shown k ≡ zero_string
   one-time-past count k h = ap (λ b. cond b (raise step (top - digit k) (shown k)) zero_string) (le-ltb k count h)
 
+  -- a row of zeros
+  pub one-time-none : (i : ℕ) → i < 256 → string_at (replicate 4096 0) i ≡ one_time step 0 top digit shown i
+  one-time-none i h = string_at-zeros 4096 i (omega arith) ∙ sym (one-time-past 0 i (omega arith))
+
   -- a row with one chain more
   pub one-time-more : (n k : ℕ) (row after : List ℕ) → ((i : ℕ) → i < n → string_at row i ≡ one_time step k top digit shown i) → string_at after k ≡ raise step (top - digit k) (shown k) → ((i : ℕ) → (i ≡ k → ⊥) → string_at after i ≡ string_at row i) → (i : ℕ) → i < n → string_at after i ≡ one_time step (k + 1) top digit shown i
-  one-time-more n k row after inv here others i h =
-      ⊎_elim
-      (λ (lt : i < k). others i (omega arith) ∙ inv i h ∙ one-time-chain k i lt ∙ sym (one-time-chain (k + 1) i (omega arith)))
-      (λ (le : k ≤ i).
-      ⊎_elim
-      (λ (more : k < i). others i (omega arith) ∙ inv i h ∙ one-time-past k i le ∙ sym (one-time-past (k + 1) i (omega arith)))
-      (λ (less : i ≤ k). let e : i ≡ k = omega arith in ap (string_at after) e ∙ here ∙ ap (λ j. raise step (top - digit j) (shown j)) (sym e) ∙ sym (one-time-chain (k + 1) i (omega arith)))
-      (cases_lt k i))
-      (cases_lt i k)
+  one-time-more n k row after inv here others i h = search rules
 
 -- rows of nodes, level by level
 module _ (parent : ℕ → List ℕ → List ℕ → List ℕ) (bottom : ℕ → List ℕ) where
@@ -92,8 +91,5 @@ climb-turn parent sibling h e b s t lt is =
     ∙ sym (climb-more parent sibling a b s)
     ∙ ap (λ c. climb parent sibling c b s) up
 
-pub shift_one : (k : ℕ) → k ≤ 8 → (1 * 2 ^ k) % 2 ^ 64 ≡ 2 ^ k
-shift_one k h = one_shl k 64 (omega arith)
-
 pub double-pow : (j k : ℕ) → j + 1 ≤ k → 2 * 2 ^ j ≤ 2 ^ k
-double-pow j k h = let up = pow_mono {i = j + 1} {j = k} h in omega (arith, ap (λ n. 2 ^ n) (add-one j) ∙ pow-succ' 2 j)
+double-pow j k h = omega (arith, pow_more 2 j, pow_mono h)

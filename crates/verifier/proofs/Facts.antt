@@ -3,7 +3,6 @@
 use Rattle.std.proofs.Common.{◌≡◌, ℕ, ◌+◌, ◌^◌, ◌<◌, ◌≤◌, Bool, true, false, List, length, get_or, drop, Ok, Err, Result, refl, ap, ◌∙◌, arith, w8, Fits}
 use Rattle.std.proofs.ByRecursion.{All-from_get_or}
 use Rattle.strings.specs.Strings.{Bytes}
-use Rattle.std.proofs.lemmas.Bool.{cond-false}
 use Rattle.std.proofs.lemmas.List.{get_or-drop}
 use Rattle.std.proofs.lemmas.Bool.Decides.{nat_tests}
 use Rattle.tree.specs.Meaning.{Code}
@@ -12,9 +11,6 @@ use Rattle.verifier.specs.Records.{field, key_length, release_length, hash_numbe
 use Rattle.verifier.specs.Rules.{refuse, after, header_rule, open_rule, suited, read_rule, parts_rule}
 use Rattle.verifier.specs.declared.refusal.Refusal.{Refusal}
 
-pub ok-err : {A : Type 0} {x : A} {e : Refusal} → ◌≡◌ {A = Result A Refusal} (Err e) (Ok x) → ⊥
-ok-err p = cc
-
 pub ok_same : {A : Type 0} {x y : A} → ◌≡◌ {A = Result A Refusal} (Ok x) (Ok y) → x ≡ y
 ok_same p = cc
 
@@ -22,9 +18,6 @@ ok_same p = cc
 pub passes : {A : Type 0} {x : A} (test : Bool) (e : Refusal) (rest : Result A Refusal) → refuse test e rest ≡ Ok x → (test ≡ false) × (rest ≡ Ok x)
 passes true e rest p = cc
 passes false e rest p = (refl, p)
-
-pub goes : {A : Type 0} (test : Bool) (e : Refusal) (rest : Result A Refusal) → test ≡ false → refuse test e rest ≡ rest
-goes test e rest p = cond-false test (Err e) rest p
 
 pub after-ok : {A B : Type 0} {y : B} (r : Result A Refusal) (next : A → Result B Refusal) → after r next ≡ Ok y → (x : A) × (r ≡ Ok x) × (next x ≡ Ok y)
 after-ok (Ok x) next p = (x, refl, p)
@@ -72,9 +65,6 @@ pub record Releases (hash : ℕ) (code : Code) (key : Key) (bytes : List ℕ) : 
   pub suits : suited hash code.number code.levels key ≡ true
   pub laid : length bytes ≡ release_length code.count key.height
   pub below : leaf_of bytes < 2 ^ key.height
-
-pub read-from : (hash : ℕ) (code : Code) (key : Key) (bytes : List ℕ) → Releases hash code key bytes → read_rule hash code key bytes ≡ Ok (record { leaf = leaf_of bytes; row = row_of bytes })
-read-from hash code key bytes h = grind (arith, nat_tests)
 
 pub read-to : (hash : ℕ) (code : Code) (key : Key) (bytes : List ℕ) (shown : Shown) → read_rule hash code key bytes ≡ Ok shown → Releases hash code key bytes × (shown ≡ record { leaf = leaf_of bytes; row = row_of bytes })
 read-to hash code key bytes shown p = grind (arith, nat_tests)

@@ -1,8 +1,8 @@
 -- Bytes are read as a record exactly when writing that record yields them.
 -- Assumes nothing.
-use Rattle.std.proofs.Common.{◌≡◌, ℕ, ◌+◌, ◌-◌, ◌*◌, ◌^◌, ◌<◌, ◌≤◌, true, List, ◌++◌, length, take, drop, Ok, Result, sym, refl, ap, ◌∙◌, subst, le_trans, arith, pow_mono}
+use Rattle.std.proofs.Common.{◌≡◌, ℕ, ◌+◌, ◌-◌, ◌*◌, ◌^◌, ◌<◌, ◌≤◌, true, List, ◌++◌, length, take, drop, Ok, Result, sym, refl, ap, ◌∙◌, subst, le_trans, arith, rules, pow_mono}
 use Rattle.std.proofs.lemmas.Grind.{common_steps}
-use Rattle.std.proofs.lemmas.List.{length-take-le, length-drop, take-append-drop, take_all, take_at, drop_at, drop-drop}
+use Rattle.std.proofs.lemmas.List.{places, same_lists, length-append, length-take, length-take-le, length-drop, take_all, take_at, drop_at, drop-drop}
 use Rattle.verifier.specs.declared.refusal.Refusal.{Refusal}
 use Rattle.strings.specs.Strings.{Bytes, little_endian}
 use Rattle.tree.specs.Meaning.{Code}
@@ -10,27 +10,19 @@ use Rattle.verifier.specs.Keys.{Key, Shown}
 use Rattle.verifier.specs.Reads.{KeyParts, ReadsKeys, ReleaseParts, ReadsReleases}
 use Rattle.verifier.specs.Records.{framed, key_bytes, release_bytes, height_of, hash_key_of, masks_of, root_of, leaf_of, row_of}
 use Rattle.verifier.specs.Rules.{open_rule, suited, read_rule}
-use Rattle.verifier.proofs.Facts.{Headed, Opens, open-from, open-to, suited-to, read-from, read-to}
+use Rattle.verifier.proofs.Facts.{Headed, Opens, open-from, open-to, read-to}
 
 -- the six header bytes are those that writing puts before the body
 pub frame : (kind : ℕ) (bytes : List ℕ) → Bytes bytes → Headed kind bytes → bytes ≡ framed kind (drop 6 bytes)
 frame kind bytes b h = grind (arith, common_steps)
 
--- what writing puts before the body reads as its length and kind
-pub framed-headed : (kind : ℕ) (body : List ℕ) → kind < 65536 → 4 ≤ length body → 6 + length body < 2 ^ 32 → Headed kind (framed kind body)
-framed-headed kind body small long fits = grind arith
+-- what follows place a, in three pieces
+in-three : (a b c x y z : ℕ) (s : List ℕ) → a + x ≡ b → b + y ≡ c → length s ≤ c + z → drop a s ≡ take x (drop a s) ++ (take y (drop b s) ++ take z (drop c s))
+in-three a b c x y z s e f h = same_lists _ _ (simp (length-append, length-drop, length-take) (omega arith)) (λ k d lt. grind (arith, places))
 
 -- the rest of a key record is its hash key, its masks and its root
 key-rest : (bytes : List ℕ) → 42 ≤ length bytes → drop 10 bytes ≡ hash_key_of bytes ++ (masks_of bytes ++ root_of bytes)
-key-rest bytes h =
-    let n = length bytes - 42 in
-    let end : 26 + n ≡ length bytes - 16 = omega arith in
-    let last : length (drop (length bytes - 16) bytes) ≤ 16 = rw length-drop (omega arith) in
-    sym (take-append-drop 16 (drop 10 bytes))
-    ∙ ap (λ l. hash_key_of bytes ++ l)
-    (drop-drop 16 10 bytes
-    ∙ sym (take-append-drop n (drop 26 bytes))
-    ∙ ap (λ l. masks_of bytes ++ l) (drop-drop n 26 bytes ∙ ap (λ k. drop k bytes) end ∙ sym (take_all 16 (drop (length bytes - 16) bytes) last)))
+key-rest bytes h = in-three 10 26 (length bytes - 16) 16 (length bytes - 42) 16 bytes (omega arith) (omega arith) (omega arith)
 
 pub key-parts : (hash code levels : ℕ) (bytes : List ℕ) → Opens hash code levels bytes → KeyParts levels (height_of bytes) (hash_key_of bytes) (masks_of bytes) (root_of bytes)
 key-parts hash code levels bytes o =
@@ -101,17 +93,7 @@ leaf-more bytes h b = grind (arith, common_steps)
 
 -- what writing a release yields is read as that release
 pub written-reads : (hash : ℕ) (code : Code) (key : Key) (leaf : ℕ) (row : List ℕ) → code.count ≤ 256 → suited hash code.number code.levels key ≡ true → ReleaseParts code.count key.height leaf row → read_rule hash code key (release_bytes leaf row) ≡ Ok (record { leaf = leaf; row = row })
-written-reads hash code key leaf row few suits parts =
-    let opened = suited-to hash code.number code.levels key suits in
-    let tall = opened.0.tall in
-    let height = opened.1 in
-    let small : 2 ^ key.height ≤ 256 = pow_mono {i = key.height} {j = 8} (omega arith) in
-    let below = parts.numbered in
-    let filled = parts.filled in
-    let made = release_bytes leaf row in
-    let number : leaf_of made ≡ leaf = omega arith in
-    read-from hash code key made (record { headed = framed-headed 2 (little_endian 2 leaf ++ row) (omega arith) (omega arith) (omega arith); suits = suits; laid = omega arith; below = omega arith })
-    ∙ ap {B = Result Shown Refusal} (λ n. Ok (record { leaf = n; row = row })) number
+written-reads hash code key leaf row few suits parts = search rules
 
 pub reads-releases : (hash : ℕ) (code : Code) (key : Key) (bytes : List ℕ) → code.count ≤ 256 → Bytes bytes → suited hash code.number code.levels key ≡ true → ReadsReleases code.count key.height bytes (read_rule hash code key bytes)
 reads-releases hash code key bytes few b suits =
@@ -133,5 +115,5 @@ reads-releases hash code key bytes few b suits =
 -- an answer that is the rule's reads as a release what writing that release yields
 pub reads-releases-as : (hash : ℕ) (code : Code) (key : Key) (bytes : List ℕ) (r : Result Shown Refusal) → code.levels ≤ 8 → code.count ≤ 2 ^ code.levels → Bytes bytes → r ≡ read_rule hash code key bytes → suited hash code.number code.levels key ≡ true → ReadsReleases code.count key.height bytes r
 reads-releases-as hash code key bytes r low few b is suits =
-    let small : code.count ≤ 256 = le_trans few (pow_mono {i = code.levels} {j = 8} low) in
+    let small : code.count ≤ 256 = le_trans few (pow_mono low) in
     subst (ReadsReleases code.count key.height bytes) (sym is) (reads-releases hash code key bytes small b suits)

@@ -1,8 +1,9 @@
 use Rattle.std.proofs.Common.{◌≡◌, ℕ, ◌+◌, ◌-◌, ◌*◌, ◌%◌, ◌^◌, ◌<◌, List, Option, sym, ap, ◌∙◌, mod-eq_of_lt, arith, pow_pos}
+use Rattle.std.proofs.lemmas.Nat.{one_shl}
 use Rattle.std.specs.Option.{option_or}
 use Rattle.strings.specs.Strings.{string_at}
 use Rattle.tree.specs.Nodes.{join, node}
-use Rattle.tree.proofs.Laws.{fold-none, fold_more, shift_one, double-pow}
+use Rattle.tree.proofs.Laws.{fold-none, fold_more, double-pow}
 use Rattle.compare.specs.Search.{first_from, child_find, depth_search}
 use Rattle.compare.specs.declared.verdict.Find.{Find}
 use Rattle.compare.proofs.Firsts.{first-none, first-front, first-moved}
@@ -25,7 +26,7 @@ join_level-find-requires g c =
     let tall = c.requires.tall in
     let few = c.requires.few in
     let low = c.loop-left.invariant.0 in
-    let one = shift_one (left - 1) (omega arith) in
+    let one = one_shl (left - 1) 64 (omega arith) in
     let twice = double-pow (left - 1) c.args.levels (omega arith) in
     let places = places-fit c.args.height (left - 1) c.args.leaf c.requires.there tall (omega arith) in
     let some = pow_pos (left - 1) in
@@ -51,7 +52,7 @@ loop-left-preserved g c =
     let some = c.loop-left-test.true in
     let low = inv.0 in
     let few = c.requires.few in
-    let one = shift_one (left - 1) (omega arith) in
+    let one = one_shl (left - 1) 64 (omega arith) in
     let places = places-fit h (left - 1) c.args.leaf c.requires.there c.requires.tall (omega arith) in
     let whole : (c.args.leaf * 2 ^ (left - 1)) % 65536 ≡ c.args.leaf * 2 ^ (left - 1) = mod-eq_of_lt (omega (arith, pow_pos (left - 1))) in
     let more : (n : ℕ → List ℕ) (row after : ℕ → List ℕ) → ((k : ℕ) → k < 2 ^ left → row k ≡ node (join pair masks) n (h + left) (levels - left) k) → ((k : ℕ) → k < (1 * 2 ^ (left - 1)) % 18446744073709551616 → after k ≡ join pair masks (h + (left - 1)) (row (2 * k)) (row (2 * k + 1))) → (k : ℕ) → k < 2 ^ (left - 1) → after k ≡ node (join pair masks) n (h + (left - 1)) (levels - (left - 1)) k =

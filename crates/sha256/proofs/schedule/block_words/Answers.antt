@@ -1,7 +1,8 @@
 use Rattle.std.proofs.Common.{◌/◌, length, ◌∙◌, arith}
 use Rattle.std.proofs.lemmas.List.{length-set}
 use Rattle.sha256.specs.Compress.{word_at}
-use Rattle.sha256.proofs.Words.{front-filled, filled_more, word-chunk}
+use Rattle.strings.proofs.Laws.{filled_more}
+use Rattle.sha256.proofs.Words.{front-filled, word-chunk}
 use Rattle.sha256.proofs.schedule.block_words.Goals as goal
 
 pub loop-t-preserved : goal.loop-t-preserved

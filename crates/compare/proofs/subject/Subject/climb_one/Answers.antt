@@ -5,13 +5,14 @@ use Rattle.tree.specs.Meaning.{hash_of, code_of}
 use Rattle.tree.specs.Nodes.{join}
 use Rattle.growth.specs.Grown.{parent_at}
 use Rattle.growth.specs.Shown.{sibling_of}
-use Rattle.growth.proofs.Paths.{sibling-below}
+use Rattle.growth.proofs.Paths.{shr-none, sibling-below}
+use Rattle.growth.proofs.Trees.{node-up}
 use Rattle.compare.specs.Search.{child_find}
 use Rattle.compare.specs.Sides.{our_node, their_node}
 use Rattle.compare.specs.Views.{traced_of}
 use Rattle.compare.proofs.Agreeing.{their-sibling}
 use Rattle.compare.proofs.Beside.{left-child, right_child}
-use Rattle.compare.proofs.Nodes.{our-parent, their-parent}
+use Rattle.compare.proofs.Nodes.{their-parent}
 use Rattle.compare.proofs.subject.Subject.climb_one.Goals as goal
 
 pub grow_node-our_sibling-requires : goal.grow_node-our_sibling-requires
@@ -48,14 +49,14 @@ returns g c =
     let l' = c.children_of-their_children.ensures.left ∙ left-child theirs position _ _ c.requires.theirs their-beside in
     let r' = c.children_of-their_children.ensures.right ∙ right_child theirs position _ _ c.requires.theirs their-beside in
     let half : b ≡ t.leaf / 2 ^ (h - a) = ap (λ n. n / 2) c.requires.place ∙ shr-shr t.leaf (h - (a + 1)) 1 ∙ ap (λ n. t.leaf / 2 ^ n) (omega arith) in
-    let near : b / 2 ^ (a - h) ≡ t.leaf / 2 ^ (h - a) = ap (λ n. b / 2 ^ n) (let e : a - h ≡ 0 = omega arith in e) ∙ omega arith in
+    let near : b / 2 ^ (a - h) ≡ t.leaf / 2 ^ (h - a) = shr-none b (a - h) (omega arith) ∙ half in
     let by = c.joiner-joiner.ensures in
     let ol = c.children_of-our_children.result.left in
     let or = c.children_of-our_children.result.right in
     let tl = c.children_of-their_children.result.left in
     let tr = c.children_of-their_children.result.right in
     record {
-      ours = c.join_both.ensures.ours ∙ (λ i. join (hash.pair (by.key i)) (by.masks i) a ol or) ∙ (λ i. parent_at hash t.origin a (l i) (r i)) ∙ sym (our-parent hash code t a b (omega arith));
+      ours = c.join_both.ensures.ours ∙ (λ i. join (hash.pair (by.key i)) (by.masks i) a ol or) ∙ (λ i. parent_at hash t.origin a (l i) (r i)) ∙ sym (node-up hash code t.origin a b (omega arith));
       theirs = c.join_both.ensures.theirs ∙ (λ i. join (hash.pair (by.key i)) (by.masks i) a tl tr) ∙ (λ i. parent_at hash t.origin a (l' i) (r' i)) ∙ sym (their-parent hash code t a b (omega arith) near);
       find = c.join_both.ensures.find ∙ (λ i. child_find (hash.pair (by.key i)) (by.masks i) a b ol or tl tr) ∙ (λ i. child_find (hash.pair t.origin.hash_key) t.origin.masks a b (l i) (r i) (l' i) (r' i));
     }

@@ -1,4 +1,4 @@
-use Rattle.std.proofs.Common.{◌≡◌, ℕ, ◌+◌, ◌-◌, ◌*◌, ◌^◌, ◌<◌, ◌≤◌, List, sym, ap, ◌∙◌, subst, arith, pow_mono}
+use Rattle.std.proofs.Common.{◌≡◌, ℕ, ◌+◌, ◌-◌, ◌*◌, ◌^◌, ◌<◌, List, sym, ap, ◌∙◌, subst, arith, pow_mono}
 use Rattle.std.specs.Option.{option_or}
 use Rattle.strings.specs.Strings.{string_at}
 use Rattle.tree.specs.Meaning.{hash_of, code_of}
@@ -11,12 +11,7 @@ use Rattle.compare.specs.Views.{traced_of}
 use Rattle.compare.proofs.Leaves.{our-node, their-node, nodes-all}
 use Rattle.compare.proofs.Nodes.{their-root}
 use Rattle.compare.proofs.Searches.{found_first}
-use Rattle.compare.proofs.subject.Subject.compare.Given as given
 use Rattle.compare.proofs.subject.Subject.compare.Goals as goal
-
--- a leaf has at most 256 strings
-room : (g : given.Over) → 2 ^ g.C.Code.LEVELS ≤ 256
-room g = pow_mono {i = g.C.Code.LEVELS} {j = 8} g.met.C.Code.level_range.1
 
 pub climb_to_root-root-requires : goal.climb_to_root-root-requires
 climb_to_root-root-requires g c =
@@ -24,7 +19,7 @@ climb_to_root-root-requires g c =
     let code = code_of g.C.Code in
     let t = traced_of c.args.self.now in
     let h = t.origin.height in
-    let most = room g in
+    let most = pow_mono g.met.C.Code.level_range.1 in
     let by = c.joiner-joiner.ensures in
     let ours : ℕ → List ℕ = string_at c.compare_chains-chains.new.ours in
     let theirs : ℕ → List ℕ = string_at c.compare_chains-chains.new.theirs in
@@ -54,7 +49,7 @@ returns g c =
     let hash = hash_of g.H.ChainHash g.H.TreeHash in
     let code = code_of g.C.Code in
     let t = traced_of c.args.self.now in
-    let most = room g in
+    let most = pow_mono g.met.C.Code.level_range.1 in
     let by = c.joiner-joiner.ensures in
     let ours : ℕ → List ℕ = string_at c.compare_chains-chains.new.ours in
     let theirs : ℕ → List ℕ = string_at c.compare_chains-chains.new.theirs in

@@ -1,10 +1,9 @@
 use Rattle.std.proofs.Common.{◌≡◌, ◌+◌, ◌-◌, sym, refl, ap, ◌∙◌, zero-add, arith}
 use Rattle.std.specs.Option.{option_or}
 use Rattle.strings.specs.Strings.{string_at}
-use Rattle.strings.proofs.Laws.{string_at-zeros}
 use Rattle.tree.specs.Meaning.{hash_of, code_of}
 use Rattle.tree.specs.Nodes.{raise, one_time}
-use Rattle.tree.proofs.Laws.{one-time-past, one-time-more}
+use Rattle.tree.proofs.Laws.{one-time-none, one-time-more}
 use Rattle.growth.specs.Grown.{secret}
 use Rattle.compare.specs.Search.{first_from, height_search, hidden_find_at}
 use Rattle.compare.specs.Views.{traced_of}
@@ -19,8 +18,8 @@ loop-k-init g c =
     let step = hash.step t.origin.hash_key in (
       refl,
       refl,
-      λ i h. string_at-zeros 4096 i (omega arith) ∙ sym (one-time-past step code.top (λ j. 0) (secret hash t.origin t.leaf) 0 i (omega arith)),
-      λ i h. string_at-zeros 4096 i (omega arith) ∙ sym (one-time-past step code.top (code.digit t.stamp) (string_at t.row) 0 i (omega arith)),
+      one-time-none step code.top (λ j. 0) (secret hash t.origin t.leaf),
+      one-time-none step code.top (code.digit t.stamp) (string_at t.row),
       sym (first-none (height_search hash code t) 0),
       sym (first-none (hidden_find_at hash code t) 0),
     )

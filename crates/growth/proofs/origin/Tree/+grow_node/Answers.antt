@@ -1,5 +1,5 @@
-use Rattle.std.proofs.Common.{◌≡◌, ◌+◌, ◌*◌, ◌^◌, sym, ap, ◌∙◌, add-one, arith, rules}
-use native.Mathlib.Nat.{pow-succ'}
+use Rattle.std.proofs.Common.{sym, ◌∙◌, arith, rules}
+use Rattle.std.proofs.lemmas.Grind.{pow_more}
 use Rattle.tree.specs.Meaning.{hash_of, code_of}
 use Rattle.tree.specs.Nodes.{join}
 use Rattle.growth.specs.Grown.{parent_at}

@@ -1,16 +1,11 @@
-use Rattle.std.proofs.Common.{ℕ, ◌+◌, ◌*◌, ◌^◌, ◌≤◌, List, ap, ◌∙◌, zero-mul, arith, pow_mono}
+use Rattle.std.proofs.Common.{ℕ, ◌+◌, ◌*◌, ◌^◌, List, ap, ◌∙◌, zero-mul, arith, pow_mono}
 use Rattle.strings.specs.Strings.{string_at}
 use Rattle.tree.specs.Meaning.{hash_of, code_of}
 use Rattle.tree.specs.Nodes.{join, node}
 use Rattle.tree.proofs.Laws.{node-moved}
 use Rattle.growth.specs.Grown.{leaf_string, parent_at}
 use Rattle.growth.proofs.Trees.{leaf-is}
-use Rattle.growth.proofs.origin.Tree.leaf_node.Given as given
 use Rattle.growth.proofs.origin.Tree.leaf_node.Goals as goal
-
--- a leaf has at most 256 strings
-room : (g : given.Over) → 2 ^ g.C.Code.LEVELS ≤ 256
-room g = pow_mono {i = g.C.Code.LEVELS} {j = 8} g.met.C.Code.level_range.1
 
 pub returns : goal.returns
 returns g c =
@@ -21,5 +16,5 @@ returns g c =
     let joined = c.joiner-joiner.ensures in
     c.fold.ensures
     ∙ (λ i. node (join (hash.pair (joined.key i)) (joined.masks i)) held o.height (c.LEVELS.ensures i) 0)
-    ∙ node-moved (parent_at hash o) held (leaf_string hash code o c.args.leaf) o.height code.levels 0 0 (λ k lt. c.fill_leaf.ensures (0 * 2 ^ code.levels + k) (omega (arith, zero-mul (2 ^ code.levels), room g)))
+    ∙ node-moved (parent_at hash o) held (leaf_string hash code o c.args.leaf) o.height code.levels 0 0 (λ k lt. c.fill_leaf.ensures (0 * 2 ^ code.levels + k) (omega (arith, zero-mul (2 ^ code.levels), pow_mono g.met.C.Code.level_range.1)))
     ∙ leaf-is hash code o c.args.leaf

@@ -1,7 +1,8 @@
 use Rattle.std.proofs.Common.{◌≡◌, ◌+◌, ◌-◌, ◌^◌, ap, ◌∙◌, arith, pow_pos}
+use Rattle.std.proofs.lemmas.Nat.{one_shl}
 use Rattle.strings.specs.Strings.{string_at}
 use Rattle.tree.specs.Nodes.{join, node}
-use Rattle.tree.proofs.Laws.{fold-none, fold_more, shift_one, double-pow}
+use Rattle.tree.proofs.Laws.{fold-none, fold_more, double-pow}
 use Rattle.tree.proofs.nodes.Joiner.fold.Goals as goal
 
 pub loop-left-init : goal.loop-left-init
@@ -13,7 +14,7 @@ fold_level-requires g c =
     let left = c.loop-left.left in
     record {
       masked = omega arith;
-      within = omega (arith, shift_one (left - 1) (omega arith), double-pow (left - 1) c.args.levels (omega arith));
+      within = omega (arith, one_shl (left - 1) 64 (omega arith), double-pow (left - 1) c.args.levels (omega arith));
     }
 
 pub loop-left-preserved : goal.loop-left-preserved
@@ -25,5 +26,5 @@ loop-left-preserved g c =
           (c.args.level + (left - 1)) (c.args.levels - left) (c.args.level + left) (c.args.levels - (left - 1))
           (omega arith) (omega arith) (double-pow (left - 1) left (omega arith))
           c.loop-left.invariant.1
-          (λ k h. c.fold_level.ensures k (omega (arith, shift_one (left - 1) (omega arith)))),
+          (λ k h. c.fold_level.ensures k (omega (arith, one_shl (left - 1) 64 (omega arith)))),
     )

@@ -1,13 +1,8 @@
-use Rattle.std.proofs.Common.{ℕ, ◌+◌, ◌-◌, ◌*◌, ◌^◌, ◌≤◌, List, ap, ◌∙◌, zero-mul, arith, pow_mono}
+use Rattle.std.proofs.Common.{ℕ, ◌+◌, ◌-◌, ◌*◌, ◌^◌, List, ap, ◌∙◌, zero-mul, arith, pow_mono}
 use Rattle.strings.specs.Strings.{string_at}
 use Rattle.tree.specs.Nodes.{join, node, climb, one_time}
 use Rattle.tree.proofs.Laws.{node-moved}
-use Rattle.tree.proofs.nodes.Joiner.rebuild_root.Given as given
 use Rattle.tree.proofs.nodes.Joiner.rebuild_root.Goals as goal
-
--- a leaf has at most 256 strings
-room : (g : given.Over) → 2 ^ g.C.Code.LEVELS ≤ 256
-room g = pow_mono {i = g.C.Code.LEVELS} {j = 8} g.met.C.Code.level_range.1
 
 pub returns : goal.returns
 returns g c =
@@ -20,4 +15,4 @@ returns g c =
     c.climb_path.ensures
     ∙ ap (λ n. climb parent (λ a. string_at row (n + (h - a))) h c.args.leaf c.fold-start.result) c.COUNT.ensures
     ∙ ap (climb parent (λ a. string_at row (g.C.Code.COUNT + (h - a))) h c.args.leaf)
-    (c.fold-start.ensures ∙ ap (λ n. node parent held h n 0) c.LEVELS.ensures ∙ node-moved parent held bottom h levels 0 0 (λ k lt. c.one_time_strings.ensures (0 * 2 ^ levels + k) (omega (arith, zero-mul (2 ^ levels), room g))))
+    (c.fold-start.ensures ∙ ap (λ n. node parent held h n 0) c.LEVELS.ensures ∙ node-moved parent held bottom h levels 0 0 (λ k lt. c.one_time_strings.ensures (0 * 2 ^ levels + k) (omega (arith, zero-mul (2 ^ levels), pow_mono g.met.C.Code.level_range.1))))
