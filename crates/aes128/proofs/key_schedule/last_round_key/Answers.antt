@@ -1,5 +1,4 @@
-use Rattle.std.proofs.Common.{◌≡◌, sym, ap, ◌∙◌, arith}
-use Rattle.aes128.specs.Schedule.{key_of_round}
+use Rattle.std.proofs.Common.{sym}
 use Rattle.aes128.proofs.RoundKeys.{key_of_round-none, next-key_of_round}
 use Rattle.aes128.proofs.key_schedule.last_round_key.Goals as goal
 

@@ -1,6 +1,5 @@
 use Rattle.std.proofs.Common.{ℕ, ◌-◌, ◌*◌, ◌/◌, ◌%◌, ◌^◌, ◌<◌, sym, ap, ◌∙◌, arith}
 use lib.Bits.{bit_and}
-use mir.Facts.{Fits-bits}
 use Rattle.std.proofs.lemmas.Nat.{one_shl, and_mask, mul-le}
 use Rattle.codes.specs.Laws.{winternitz-front, winternitz-end, winternitz-past}
 use Rattle.codes.proofs.winternitz.digit_at.Goals as goal

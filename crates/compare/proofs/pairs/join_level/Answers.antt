@@ -1,8 +1,8 @@
-use Rattle.std.proofs.Common.{◌≡◌, ℕ, ◌+◌, ◌*◌, List, Option, sym, refl, ap, ◌∙◌, zero-add, arith}
+use Rattle.std.proofs.Common.{ℕ, ◌+◌, ◌*◌, List, Option, sym, refl, ap, ◌∙◌, zero-add, arith}
 use Rattle.std.specs.Option.{option_or}
 use Rattle.strings.specs.Strings.{string_at}
 use Rattle.tree.specs.Nodes.{join}
-use Rattle.compare.specs.Search.{first_from, child_find}
+use Rattle.compare.specs.Search.{child_find}
 use Rattle.compare.specs.declared.verdict.Find.{Find}
 use Rattle.compare.proofs.Firsts.{first-none, first_more}
 use Rattle.compare.proofs.Joined.{joined-more}

@@ -1,6 +1,6 @@
-use Rattle.std.proofs.Common.{◌≡◌, ◌-◌, length, sym, ap, ◌∙◌, arith, rules}
-use Rattle.std.proofs.lemmas.List.{length-set, take_all}
-use Rattle.sha256.specs.Compress.{words, extended}
+use Rattle.std.proofs.Common.{◌≡◌, length, sym, ◌∙◌, arith, rules}
+use Rattle.std.proofs.lemmas.List.{length-set}
+use Rattle.sha256.specs.Compress.{words}
 use Rattle.sha256.proofs.Words.{extended_none, extended-step}
 use Rattle.sha256.proofs.schedule.message_schedule.Goals as goal
 

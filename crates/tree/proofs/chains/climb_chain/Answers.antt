@@ -1,5 +1,4 @@
-use Rattle.std.proofs.Common.{sym, ap, ◌∙◌, arith}
-use Rattle.tree.specs.Nodes.{raise}
+use Rattle.std.proofs.Common.{sym, ap, ◌∙◌}
 use Rattle.tree.proofs.Laws.{raise-none, raise-more}
 use Rattle.tree.proofs.chains.climb_chain.Goals as goal
 

@@ -1,7 +1,6 @@
-use Rattle.std.proofs.Common.{refl, ap, ◌∙◌, arith}
+use Rattle.std.proofs.Common.{refl}
 use Rattle.strings.specs.Strings.{string_at}
-use Rattle.tree.specs.Nodes.{raise}
-use Rattle.tree.proofs.Laws.{one-time-none, one-time-more}
+use Rattle.tree.proofs.Laws.{one-time-none}
 use Rattle.tree.proofs.chains.one_time_strings.Goals as goal
 
 pub loop-k-init : goal.loop-k-init

@@ -2,10 +2,10 @@ use Rattle.std.proofs.Common.{◌≡◌, ◌+◌, ◌-◌, sym, refl, ap, ◌∙
 use Rattle.std.specs.Option.{option_or}
 use Rattle.strings.specs.Strings.{string_at}
 use Rattle.tree.specs.Meaning.{hash_of, code_of}
-use Rattle.tree.specs.Nodes.{raise, one_time}
+use Rattle.tree.specs.Nodes.{raise}
 use Rattle.tree.proofs.Laws.{one-time-none, one-time-more}
 use Rattle.growth.specs.Grown.{secret}
-use Rattle.compare.specs.Search.{first_from, height_search, hidden_find_at}
+use Rattle.compare.specs.Search.{height_search, hidden_find_at}
 use Rattle.compare.specs.Views.{traced_of}
 use Rattle.compare.proofs.Firsts.{first-none, first_more}
 use Rattle.compare.proofs.subject.Subject.compare_chains.Goals as goal

@@ -1,5 +1,4 @@
-use Rattle.std.proofs.Common.{sym, ◌∙◌, arith, rules}
-use Rattle.std.proofs.lemmas.Grind.{pow_more}
+use Rattle.std.proofs.Common.{sym, ◌∙◌, arith}
 use Rattle.tree.specs.Meaning.{hash_of, code_of}
 use Rattle.tree.specs.Nodes.{join}
 use Rattle.growth.specs.Grown.{parent_at}

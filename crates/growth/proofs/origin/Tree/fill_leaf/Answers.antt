@@ -1,7 +1,6 @@
-use Rattle.std.proofs.Common.{◌≡◌, ◌-◌, refl, ap, ◌∙◌, arith}
+use Rattle.std.proofs.Common.{refl}
 use Rattle.tree.specs.Meaning.{hash_of}
-use Rattle.tree.specs.Nodes.{raise}
-use Rattle.tree.proofs.Laws.{one-time-none, one-time-more}
+use Rattle.tree.proofs.Laws.{one-time-none}
 use Rattle.growth.specs.Grown.{secret}
 use Rattle.growth.proofs.origin.Tree.fill_leaf.Goals as goal
 

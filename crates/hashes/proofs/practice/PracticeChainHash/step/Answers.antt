@@ -1,6 +1,5 @@
-use Rattle.std.proofs.Common.{◌/◌, get_or, ap, arith}
-use lib.Bits.{bit_xor}
-use Rattle.strings.proofs.Laws.{edited-none, edited-more, edited-all}
+use Rattle.std.proofs.Common.{arith}
+use Rattle.strings.proofs.Laws.{edited-all}
 use Rattle.hashes.specs.Practice.{step_byte}
 use Rattle.hashes.proofs.practice.PracticeChainHash.step.Goals as goal
 

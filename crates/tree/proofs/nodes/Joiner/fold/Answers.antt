@@ -1,7 +1,7 @@
-use Rattle.std.proofs.Common.{◌≡◌, ◌+◌, ◌-◌, ◌^◌, ap, ◌∙◌, arith, pow_pos}
+use Rattle.std.proofs.Common.{◌+◌, ◌-◌, ◌^◌, arith}
 use Rattle.std.proofs.lemmas.Nat.{one_shl}
 use Rattle.strings.specs.Strings.{string_at}
-use Rattle.tree.specs.Nodes.{join, node}
+use Rattle.tree.specs.Nodes.{join}
 use Rattle.tree.proofs.Laws.{fold-none, fold_more, double-pow}
 use Rattle.tree.proofs.nodes.Joiner.fold.Goals as goal
 
