@@ -10,7 +10,7 @@ use crate::source::Source;
 use codes::Code;
 use hashes::TreeHash;
 use schemes::Task;
-use signer::{Holder, Maker, Plan, Signer};
+use signer::{Maker, Plan, Signer};
 use verifier::{Refusal, open, verify};
 
 // Opens a key record, and verifies a release record under it.

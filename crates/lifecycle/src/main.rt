@@ -3,7 +3,7 @@
 
 use codes::Winternitz4;
 use hashes::Practice;
-use signer::{Holder, Maker, Plan, Signer};
+use signer::{Maker, Plan, Signer};
 use telling::{tell_refusal, tell_trace};
 use verifier::{open, verify};
 

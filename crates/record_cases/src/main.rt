@@ -6,7 +6,7 @@ use anyhow::anyhow;
 use codes::{Code, LamportDiffie, Winternitz2, Winternitz4};
 use hashes::{ChainHash, Practice, TreeHash};
 use sha256::Sha256Hash;
-use signer::{Holder, Maker, Plan, Signer};
+use signer::{Maker, Plan, Signer};
 use std::fs;
 use verifier::{Refusal, open, verify};
 

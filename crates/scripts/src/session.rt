@@ -15,11 +15,11 @@ use signer::{Maker, Plan, Retired, Signer};
 use signer_calls::in_service;
 use std::alloc::{AllocError, Global};
 
-mod holder;
 mod maker_calls;
 mod outputs;
 mod retired_calls;
 mod signer_calls;
+mod unchanged;
 
 // A key: being grown, in service, or retired.
 #[derive(Drop)]

@@ -1,7 +1,6 @@
 // The signer: a key is planned, begun, grown, put into service, signs, and is retired.
 #![tactic(auto)]
 
-mod holder;
 mod ledger;
 mod maker;
 mod plan;
@@ -9,7 +8,6 @@ mod records;
 mod scratch;
 mod signer;
 
-pub use holder::Holder;
 pub use ledger::Ledger;
 pub use maker::Maker;
 pub use plan::Plan;

@@ -11,7 +11,7 @@ use hashes::TreeHash;
 use std::marker::PhantomData;
 
 mod calls;
-mod holding;
+mod tracing;
 
 // Only `finish` makes one.
 #[derive(Drop)]

@@ -9,7 +9,7 @@ use Rattle.histories.specs.Rules.{key_size, key_record}
 use Rattle.signer.specs.Views.{signing_of}
 use Rattle.histories.proofs.Continuing.{key-continues}
 use Rattle.histories.proofs.Opening.{record-opens}
-use Rattle.signer.proofs.signer.holding.SignerHolder.key.Goals as goal
+use Rattle.signer.proofs.signer.Signer.key.Goals as goal
 
 pub returns-then-out-size : goal.returns-then-out-size
 returns-then-out-size g c =

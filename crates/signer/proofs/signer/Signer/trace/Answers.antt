@@ -22,8 +22,8 @@ use Rattle.verifier.proofs.Facts.{bytes-from}
 use Rattle.signer.specs.Views.{signing_of}
 use Rattle.signer.specs.declared.signer.Signer.{Signer}
 use Rattle.signer.proofs.Held.{signer-strings}
-use Rattle.signer.proofs.signer.holding.SignerHolder.trace.Given as given
-use Rattle.signer.proofs.signer.holding.SignerHolder.trace.Goals as goal
+use Rattle.signer.proofs.signer.Signer.trace.Given as given
+use Rattle.signer.proofs.signer.Signer.trace.Goals as goal
 
 -- the signer reads as verify does under its own key
 reads : {H C : Type 0} {tree : tree_hash.Ghosts H} {chain : chain_hash.Ghosts H} {coded : code_trait.Ghosts C} (g : given.Over) (s : Signer H C tree chain coded) (stamp bytes report : List ℕ) → ReadsOwn (hash_of g.H.ChainHash g.H.TreeHash) (code_of g.C.Code) (signing_of s) stamp bytes report

@@ -1,0 +1,93 @@
+// Key records and traces, in service and out of it.
+ghost use Rattle.std.specs.Prelude.{◌≡◌, replicate, Ok};
+ghost use Rattle.histories.specs.Histories.{State, IsSigner, key, trace, Continues};
+ghost use Rattle.histories.specs.Promise.{Promised};
+ghost use Rattle.histories.specs.Rules.{key_record, key_answer, key_output, trace_answer, trace_report, Finds};
+ghost use Rattle.signer.specs.Views.{signing_of};
+ghost use Rattle.tree.specs.Meaning.{hash_of, code_of};
+ghost use Rattle.verifier.specs.Rules.{open_rule};
+
+use super::{Retired, Signer};
+use crate::records::write_key;
+use crate::scratch::Scratch;
+use codes::Code;
+use compare::Subject;
+use growth::Tree;
+use hashes::TreeHash;
+use std::ops::Deref;
+use strings::same;
+use verifier::{Refusal, key_length, read_own};
+
+impl<H: TreeHash, C: Code> Signer<H, C> {
+    // Writes the key record at the start of the output, and answers its length. Refuses an output that is shorter; it stays.
+    pub fn key(&self, out: &mut [u8]) -> Result<usize, Refusal>
+        ensures answer { result ≡ key_answer (code_of C.Code) (signing_of self.now) out.old }
+        ensures output { out.new ≡ key_output (hash_of H.ChainHash H.TreeHash.own) (code_of C.Code) (signing_of self.now) out.old }
+        ensures opens { open_rule H.ChainHash.NUMBER C.Code.NUMBER C.Code.LEVELS (key_record (hash_of H.ChainHash H.TreeHash.own) (code_of C.Code) (signing_of self.now)) ≡ Ok (record { bytes = key_record (hash_of H.ChainHash H.TreeHash.own) (code_of C.Code) (signing_of self.now); height = (signing_of self.now).origin.height }) }
+        ensures lived { (x : State) → IsSigner x (signing_of self.now) → Continues (hash_of H.ChainHash H.TreeHash.own) (code_of C.Code) x (key out.old result out.new) x }
+    {
+        let size = key_length::<C>(self.origin.height);
+        if out.len() < size {
+            return Err(Refusal::Output);
+        }
+        let names = [H::NUMBER, C::NUMBER, self.origin.height, 0];
+        write_key(
+            out,
+            &names,
+            &self.origin.hash_key,
+            &self.origin.masks[0..size - 42],
+            &self.root,
+        );
+        Ok(size)
+    }
+
+    // Compares a release record with the ledger, and answers a verdict and two numbers: 0, the leaf and 0 where the record is
+    // ours; 1, a level and a position where two different inputs of pair have one value; 2, a chain and a height where two
+    // different strings step to one; 3, a chain and a height whose string was never revealed. The report then shows it. Refuses
+    // what verify refuses under this signer's key; the report then stays.
+    pub fn trace<'a>(
+        &'a self,
+        stamp: &'a [u8; 16],
+        bytes: &'a [u8],
+        report: &mut [u8; 64],
+        work: &mut [u8; 4096],
+    ) -> Result<(u8, u16, u16), Refusal>
+        ensures answer { result ≡ trace_answer (hash_of H.ChainHash H.TreeHash.own) (code_of C.Code) (signing_of self.now) stamp.now bytes.now }
+        ensures report { report.new ≡ trace_report (hash_of H.ChainHash H.TreeHash.own) (code_of C.Code) (signing_of self.now) stamp.now bytes.now report.old }
+        ensures finds { Finds (hash_of H.ChainHash H.TreeHash.own) (code_of C.Code) (signing_of self.now) stamp.now bytes.now result report.new }
+        ensures lived { (x : State) → IsSigner x (signing_of self.now) → Continues (hash_of H.ChainHash H.TreeHash.own) (code_of C.Code) x (trace stamp.now bytes.now report.old result report.new) x }
+        ensures promise { Promised (hash_of H.ChainHash H.TreeHash.own) (code_of C.Code) (signing_of self.now) stamp.now bytes.now result report.new }
+        ensures wiped { work.new ≡ replicate 4096 0 }
+    {
+        let guard = Scratch { bytes: work };
+        let release = read_own::<C>(self.origin.height, bytes)?;
+        let subject = Subject {
+            tree: Tree {
+                origin: &self.origin,
+                hash: self.hash,
+                code: self.code,
+            },
+            entered: self.ledger.row(release.leaf),
+            stamp,
+            leaf: release.leaf,
+            row: release.row,
+        };
+        let compared = subject.compare(guard.bytes);
+        if !same(&compared.root, &self.root) {
+            return Err(Refusal::Root);
+        }
+        *report = compared.verdict.report();
+        Ok(compared.verdict.numbers(release.leaf))
+    }
+}
+
+// What a signer does unchanged is left to it when it is retired: its key record, and its traces.
+impl<H: TreeHash, C: Code> Deref for Retired<H, C> {
+    type Target = Signer<H, C>;
+
+    ghost deref_gives = { λ retired signer. signer ≡ retired.signer };
+
+    fn deref(&self) -> &Signer<H, C> {
+        &self.signer
+    }
+}
