@@ -9,7 +9,6 @@ use hashes::TreeHash;
 
 // The other child of the same parent.
 pub fn sibling(position: u16) -> u16
-    requires { position < 2 ^ 15 }
     ensures { result ≡ sibling_of position }
 {
     if position % 2 == 0 {

@@ -1,6 +1,6 @@
 -- What a session answers to a call, and what it leaves.
 -- Assumes nothing.
-use Rattle.std.specs.Prelude.{ℕ, zero, suc, List, [], ◌∷◌, ◌++◌, map, take, replicate, Some, None, Ok, Err, vec_items, Option, Result}
+use Rattle.std.specs.Prelude.{ℕ, ⊤, zero, suc, List, [], ◌∷◌, ◌++◌, map, take, replicate, Some, None, Ok, Err, vec_items, Option, Result}
 use Rattle.codes.specs.declared.Code as code_trait
 use Rattle.hashes.specs.declared.ChainHash as chain_hash
 use Rattle.hashes.specs.declared.TreeHash as tree_hash
@@ -75,6 +75,17 @@ held_nodes m = held_below m 9
 -- an output of this size: zeros
 abbrev pub output : ℕ → List ℕ
 output room = replicate room 0
+
+-- the calls whose answer takes memory
+abbrev pub Takes : Said → Type 0
+Takes grow = ⊥
+Takes nodes = ⊤
+Takes finish = ⊥
+Takes (key room) = ⊤
+Takes (sign stamp room) = ⊤
+Takes (skip leaf) = ⊥
+Takes retire = ⊥
+Takes (trace stamp bytes) = ⊥
 
 module _ (hash : Hash) (code : Code) where
   abbrev pub key_reply : Signing → ℕ → Told

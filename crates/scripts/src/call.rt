@@ -1,5 +1,6 @@
 // The calls of a key that is begun.
-ghost use Rattle.std.specs.Prelude.{◌≡◌, IfOk, vec_items};
+ghost use Rattle.std.specs.Prelude.{◌≡◌, IfOk, OnErr, true, codes, vec_items};
+ghost use Rattle.std.specs.Str.{bytes_eq};
 ghost use Rattle.std.specs.Option.{option_map};
 ghost use Rattle.scripts.specs.Calls.{said, alone, room_rule, read_key, read_sign, read_skip, read_trace, read_call, record_rule};
 ghost use Rattle.scripts.specs.Words.{left_of};
@@ -101,7 +102,8 @@ impl Call {
         name: &str,
         words: Words<'_>,
     ) -> Result<Option<Call>, AllocError>
-        ensures { IfOk result (λ o. option_map said o ≡ read_call name.now (left_of words.entry)) }
+        ensures call { IfOk result (λ o. option_map said o ≡ read_call name.now (left_of words.entry)) }
+        ensures lacking { OnErr result (bytes_eq name.now (codes "trace") ≡ true) }
     {
         match name {
             "grow" => Ok(alone_call(Call::Grow, words)),

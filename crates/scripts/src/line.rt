@@ -1,7 +1,8 @@
 // A line of a script.
-ghost use Rattle.std.specs.Prelude.{◌≡◌, IfOk};
+ghost use Rattle.std.specs.Prelude.{◌≡◌, IfOk, OnErr, true, codes};
+ghost use Rattle.std.specs.Str.{bytes_eq};
 ghost use Rattle.scripts.specs.Lines.{line_of, line_rule, read_begin};
-ghost use Rattle.scripts.specs.Words.{left_of};
+ghost use Rattle.scripts.specs.Words.{word_of, left_of};
 
 use crate::words::{Words, split_word};
 use crate::{Begin, Call, hex};
@@ -42,7 +43,8 @@ fn read_begin(mut words: Words<'_>) -> Option<Begin>
 impl Line {
     // Reads a line.
     pub fn read(heap: Global, text: &[u8]) -> Result<Line, AllocError>
-        ensures { IfOk result (λ line. line_of line ≡ line_rule text.now) }
+        ensures line { IfOk result (λ line. line_of line ≡ line_rule text.now) }
+        ensures lacking { OnErr result (bytes_eq (word_of text.now) (codes "trace") ≡ true) }
     {
         if let [] | [b'#', ..] = text {
             return Ok(Line::Silent);

@@ -1,9 +1,9 @@
 // A key from its begin on.
-ghost use Rattle.std.specs.Prelude.{◌≡◌, IfOk};
+ghost use Rattle.std.specs.Prelude.{◌≡◌, IfOk, OnErr};
 ghost use Rattle.histories.specs.Histories.{growing};
 ghost use Rattle.histories.specs.Rules.{begin_rule};
 ghost use Rattle.scripts.specs.Calls.{said};
-ghost use Rattle.scripts.specs.Replies.{told, state_of, reply, leaves};
+ghost use Rattle.scripts.specs.Replies.{Takes, told, state_of, reply, leaves};
 ghost use Rattle.tree.specs.Meaning.{hash_of, code_of};
 
 use crate::{Answer, Begin, Call};
@@ -44,6 +44,7 @@ impl<H: TreeHash, C: Code> Session<H, C> {
     pub fn answer(self, heap: Global, call: &Call) -> Result<(Session<H, C>, Answer), AllocError>
         ensures answer { IfOk result (λ x. told x.1 ≡ reply (hash_of H.ChainHash H.TreeHash.own) (code_of C.Code) (state_of self) (said call.now)) }
         ensures state { IfOk result (λ x. state_of x.0 ≡ leaves (hash_of H.ChainHash H.TreeHash.own) (code_of C.Code) (state_of self) (said call.now)) }
+        ensures lacking { OnErr result (Takes (said call.now)) }
     {
         match self {
             Session::Growing(maker) => while_growing(heap, maker, call),

@@ -1,9 +1,9 @@
 // The calls of a key that is being grown.
-ghost use Rattle.std.specs.Prelude.{◌≡◌, map, IfOk};
+ghost use Rattle.std.specs.Prelude.{◌≡◌, map, IfOk, OnErr};
 ghost use Rattle.histories.specs.Histories.{growing};
 ghost use Rattle.histories.specs.Rules.{grow_answer, grow_leaves};
 ghost use Rattle.scripts.specs.Calls.{said};
-ghost use Rattle.scripts.specs.Replies.{told, grown, answered, node_of, held_nodes, state_of, reply, leaves};
+ghost use Rattle.scripts.specs.Replies.{Takes, told, grown, answered, node_of, held_nodes, state_of, reply, leaves};
 ghost use Rattle.signer.specs.Views.{making_of};
 ghost use Rattle.tree.specs.Meaning.{hash_of, code_of};
 
@@ -53,6 +53,7 @@ pub(crate) fn while_growing<H: TreeHash, C: Code>(
 ) -> Result<(Session<H, C>, Answer), AllocError>
     ensures answer { IfOk result (λ x. told x.1 ≡ reply (hash_of H.ChainHash H.TreeHash.own) (code_of C.Code) (growing (making_of maker)) (said call.now)) }
     ensures state { IfOk result (λ x. state_of x.0 ≡ leaves (hash_of H.ChainHash H.TreeHash.own) (code_of C.Code) (growing (making_of maker)) (said call.now)) }
+    ensures lacking { OnErr result (Takes (said call.now)) }
 {
     let answer = match call {
         Call::Grow => grow(&mut maker),

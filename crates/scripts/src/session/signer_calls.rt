@@ -1,9 +1,9 @@
 // The calls of a key in service.
-ghost use Rattle.std.specs.Prelude.{◌≡◌, IfOk, OnOk};
+ghost use Rattle.std.specs.Prelude.{◌≡◌, IfOk, OnOk, OnErr};
 ghost use Rattle.histories.specs.Histories.{serving};
 ghost use Rattle.histories.specs.Rules.{sign_state, skip_answer, skip_state};
 ghost use Rattle.scripts.specs.Calls.{said};
-ghost use Rattle.scripts.specs.Replies.{told, next, answered, output, sign_reply, state_of, reply, leaves};
+ghost use Rattle.scripts.specs.Replies.{Takes, told, next, answered, output, sign_reply, state_of, reply, leaves};
 ghost use Rattle.signer.specs.Views.{signing_of};
 ghost use Rattle.tree.specs.Meaning.{hash_of, code_of};
 
@@ -51,6 +51,7 @@ pub(crate) fn in_service<H: TreeHash, C: Code>(
 ) -> Result<(Session<H, C>, Answer), AllocError>
     ensures answer { IfOk result (λ x. told x.1 ≡ reply (hash_of H.ChainHash H.TreeHash.own) (code_of C.Code) (serving (signing_of signer)) (said call.now)) }
     ensures state { IfOk result (λ x. state_of x.0 ≡ leaves (hash_of H.ChainHash H.TreeHash.own) (code_of C.Code) (serving (signing_of signer)) (said call.now)) }
+    ensures lacking { OnErr result (Takes (said call.now)) }
 {
     let answer = match call {
         Call::Key { room } => key(heap, &signer, *room)?,
