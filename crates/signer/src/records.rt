@@ -39,10 +39,11 @@ pub(crate) fn write_key(
 {
     let size = 42 + masks.len();
     write_header(out, RecordKind::Key, size);
-    put(out, 6, names);
-    put(out, 10, hash_key);
+    // Copies, so that what is written cannot lie under what is read: else the compiler tests for that each time.
+    put(out, 6, &{ *names });
+    put(out, 10, &{ *hash_key });
     put(out, 26, masks);
-    put(out, size - 16, root);
+    put(out, size - 16, &{ *root });
 }
 
 // Writes the strings of a release of a leaf from byte 8 of the output on; the bytes before and after them stay. The work
