@@ -73,10 +73,7 @@ abbrev pub read_rule : ℕ → Code → Key → List ℕ → Result Shown Refusa
 read_rule hash code key bytes =
     after (header_rule 2 bytes)
     (λ body.
-    refuse (not (suited hash code.number code.levels key)) Parameters
-    (refuse (not (length bytes == release_length code.count key.height)) Layout
-    (refuse (nat_le (2 ^ key.height) (leaf_of bytes)) Leaf
-    (Ok (record { leaf = leaf_of bytes; row = row_of bytes })))))
+    refuse (not (suited hash code.number code.levels key)) Parameters (parts_rule code.count key.height bytes))
 
 -- a release record read by its own signer, whose key has height h
 abbrev pub own_rule : ℕ → ℕ → List ℕ → Result Shown Refusal
