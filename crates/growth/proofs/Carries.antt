@@ -5,7 +5,7 @@ use Rattle.std.proofs.lemmas.Bool.{cases_eq, cases_lt, cond-false, and_left, lt-
 use Rattle.strings.specs.Strings.{string_at, put_string, zero_string}
 use Rattle.strings.proofs.Laws.{length-put_string, at-put-same, at-put-other}
 use Rattle.tree.specs.Meaning.{Hash, Code}
-use Rattle.growth.specs.Grown.{parent_at, node_at, held_at, Held, Holds, carry, with_leaf}
+use Rattle.growth.specs.Grown.{parent_at, node_at, held_at, is_held, Holds, carry, with_leaf}
 use Rattle.growth.specs.declared.origin.Origin.{Origin}
 use Rattle.growth.proofs.Strings.{Strings, node-str}
 use Rattle.growth.proofs.Trees.{Fills, node-up, held-odd, held-here, held_below, held-above, not_root, fills_up, carry-odd, carry-even}
@@ -105,6 +105,6 @@ module _ (hash : Hash) (code : Code) (o : Origin) (all : Strings hash o) (tall :
           within = omega arith;
           fills = omega (arith, ap (λ j. (g + 1) * 2 ^ j) none);
           long = long;
-          empty = λ a lt far. held a lt ∙ cond-false (Held o.height g a) _ _ (and_left _ _ (lt-leb a o.height far));
+          empty = λ a lt far. held a lt ∙ cond-false (is_held o.height g a) _ _ (and_left _ _ (lt-leb a o.height far));
           before = λ a le. held a (omega arith);
         })

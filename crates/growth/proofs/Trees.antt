@@ -10,7 +10,7 @@ use Rattle.strings.specs.Strings.{zero_string, string_at, put_string}
 use Rattle.tree.specs.Meaning.{Hash, Code}
 use Rattle.tree.specs.Nodes.{node}
 use Rattle.tree.proofs.Laws.{node-moved, node-parent}
-use Rattle.growth.specs.Grown.{leaf_string, bottom, parent_at, node_at, filled, Held, held_at, Holds, carry}
+use Rattle.growth.specs.Grown.{leaf_string, bottom, parent_at, node_at, filled, is_held, held_at, Holds, carry}
 use Rattle.growth.specs.declared.origin.Origin.{Origin}
 
 module _ (hash : Hash) (code : Code) (o : Origin) where
@@ -71,20 +71,20 @@ module _ (hash : Hash) (code : Code) (o : Origin) (g m level : ℕ) (within : le
   pub held-odd : m % 2 ≡ 1 → held_at hash code o g level ≡ node_at hash code o level (m - 1)
   held-odd odd =
       let is = last-filled g m (o.height - level) fills in
-      cond-true (Held o.height g level) _ _ (and_from _ _ (le-leb level o.height within) (eq-eqb (filled g (o.height - level) % 2) 1 (ap (λ n. n % 2) is ∙ odd)))
+      cond-true (is_held o.height g level) _ _ (and_from _ _ (le-leb level o.height within) (eq-eqb (filled g (o.height - level) % 2) 1 (ap (λ n. n % 2) is ∙ odd)))
       ∙ ap (λ n. node_at hash code o level (n - 1)) is
 
   -- a leaf more is in, and m is even: what is held at this level, below it and above it
   pub held-here : m % 2 ≡ 0 → held_at hash code o (g + 1) level ≡ node_at hash code o level m
   held-here even =
       let is = next-filled g m (o.height - level) fills in
-      cond-true (Held o.height (g + 1) level) _ _ (and_from _ _ (le-leb level o.height within) (eq-eqb (filled (g + 1) (o.height - level) % 2) 1 (ap (λ n. n % 2) is ∙ omega arith)))
+      cond-true (is_held o.height (g + 1) level) _ _ (and_from _ _ (le-leb level o.height within) (eq-eqb (filled (g + 1) (o.height - level) % 2) 1 (ap (λ n. n % 2) is ∙ omega arith)))
       ∙ ap (λ n. node_at hash code o level (n - 1)) is
       ∙ ap (node_at hash code o level) (omega arith)
 
   pub held_below : (a : ℕ) → level < a → held_at hash code o (g + 1) a ≡ zero_string
   held_below a h =
-      cond-false (Held o.height (g + 1) a) _ _
+      cond-false (is_held o.height (g + 1) a) _ _
       (⊎_elim
       (λ (far : o.height < a). and_left _ _ (lt-leb a o.height far))
       (λ (near : a ≤ o.height).
@@ -133,7 +133,7 @@ pub holds-none : (hash : Hash) (code : Code) (o : Origin) → Holds hash code o 
 holds-none hash code o a h =
     let none : filled 0 (o.height - a) % 2 ≡ 0 = ap (λ n. n % 2) (zero-div (2 ^ (o.height - a))) in
     string_at-zeros 144 a (omega arith)
-    ∙ sym (cond-false (Held o.height 0 a) _ _ (and_right (leb a o.height) _ (ne_eqb (filled 0 (o.height - a) % 2) 1 (λ e. omega arith))))
+    ∙ sym (cond-false (is_held o.height 0 a) _ _ (and_right (leb a o.height) _ (ne_eqb (filled 0 (o.height - a) % 2) 1 (λ e. omega arith))))
 
 -- with all leaves in, the root is held
 pub holds-root : (hash : Hash) (code : Code) (o : Origin) (nodes : List ℕ) → Holds hash code o (2 ^ o.height) nodes → string_at nodes 0 ≡ node_at hash code o 0 0
@@ -141,5 +141,5 @@ holds-root hash code o nodes held =
     let whole : filled (2 ^ o.height) (o.height - 0) ≡ 1 =
     ap (λ j. 2 ^ o.height / 2 ^ j) (omega arith) ∙ div_self (pow_pos o.height) in
     held 0 (omega arith)
-    ∙ cond-true (Held o.height (2 ^ o.height) 0) _ _ (and_from _ _ (le-leb 0 o.height (omega arith)) (eq-eqb (filled (2 ^ o.height) (o.height - 0) % 2) 1 (ap (λ n. n % 2) whole)))
+    ∙ cond-true (is_held o.height (2 ^ o.height) 0) _ _ (and_from _ _ (le-leb 0 o.height (omega arith)) (eq-eqb (filled (2 ^ o.height) (o.height - 0) % 2) 1 (ap (λ n. n % 2) whole)))
     ∙ ap (λ n. node_at hash code o 0 (n - 1)) whole

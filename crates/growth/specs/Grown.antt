@@ -35,13 +35,13 @@ abbrev pub filled : ℕ → ℕ → ℕ
 filled g j = g / 2 ^ j
 
 -- of g leaves, the largest complete subtrees are one of 2 ^ j leaves for each bit j of g
-abbrev pub Held : ℕ → ℕ → ℕ → Bool
-Held h g a = nat_le a h && filled g (h - a) % 2 == 1
+abbrev pub is_held : ℕ → ℕ → ℕ → Bool
+is_held h g a = nat_le a h && filled g (h - a) % 2 == 1
 
 -- what is held at level a after g leaves: the last node that g leaves fill, where it is over one of the largest
 -- complete subtrees, and else the zero string
 abbrev pub held_at : Hash → Code → Origin → ℕ → ℕ → List ℕ
-held_at hash code o g a = cond (Held o.height g a) (node_at hash code o a (filled g (o.height - a) - 1)) zero_string
+held_at hash code o g a = cond (is_held o.height g a) (node_at hash code o a (filled g (o.height - a) - 1)) zero_string
 
 -- all levels hold what they should after g leaves, and nothing else; string a of the row of nodes is for level a
 abbrev pub Holds : Hash → Code → Origin → ℕ → List ℕ → Type 0

@@ -2,7 +2,7 @@
 -- Assumes nothing.
 use Rattle.std.specs.Prelude.{◌≡◌, ℕ, zero, suc, ◌+◌, ◌-◌, ◌*◌, ◌^◌, Bool, cond, ◌||◌, List, ◌++◌, length, take, drop, replicate, Some, None, Ok, Err, Option, Result, ◌==◌, nat_lt, slice_index_or, slice_set}
 use Rattle.std.specs.Bool.{then_some}
-use Rattle.growth.specs.Grown.{node_at, filled, Held, with_leaf}
+use Rattle.growth.specs.Grown.{node_at, filled, is_held, with_leaf}
 use Rattle.growth.specs.Shown.{shown_row}
 use Rattle.growth.specs.declared.origin.Origin.{Origin}
 use Rattle.strings.specs.Strings.{string_at}
@@ -39,7 +39,7 @@ grow_leaves hash code m = cond (m.grown == 2 ^ m.origin.height) m (leaf_more has
 
 -- the node that is held at level a, with its position; none where no node of that level is held
 abbrev pub held_rule : Making → ℕ → Option (ℕ × List ℕ)
-held_rule m a = then_some (Held m.origin.height m.grown a) (filled m.grown (m.origin.height - a) - 1, string_at m.nodes a)
+held_rule m a = then_some (is_held m.origin.height m.grown a) (filled m.grown (m.origin.height - a) - 1, string_at m.nodes a)
 
 -- n leaves more
 unfoldable pub leaves_more : Hash → Code → ℕ → Making → Making
