@@ -11,6 +11,7 @@ ghost use Rattle.aes128.specs.Cipher.{aes_step, aes_pair};
 use aes128::Aes128Hash;
 use hashes::{ChainHash, TreeHash};
 use sha256::Sha256Hash;
+use strings::byte_at;
 use tree::chains::climb_chain;
 
 mod calls;
@@ -23,12 +24,6 @@ pub use calls::{grow_leaves, sign_release, trace_release, verify_release, write_
 pub use reply::Reply;
 pub use sizes::type_size;
 pub use source::Source;
-
-fn byte_at(string: &[u8; 16], place: usize) -> u8
-    ensures { result ≡ slice_index string.now place }
-{
-    string.get(place).copied().unwrap_or(0)
-}
 
 fn steps<H: ChainHash>(key: &[u8], string: &[u8], turns: u8, place: usize) -> u8
     ensures answered { length key.now ≡ 16 → length string.now ≡ 16 → result ≡ slice_index (raise (H.ChainHash.steps key.now) turns string.now) place }

@@ -4,7 +4,7 @@
 use codes::Winternitz4;
 use hashes::Practice;
 use signer::{Maker, Plan, Signer};
-use telling::{tell_refusal, tell_trace};
+use telling::{tell_refusal, tell_verdict};
 use verifier::{open, verify};
 
 mod tampering;
@@ -30,22 +30,6 @@ fn begun(plan: Plan) -> Making {
     Making::begin(plan, [5; 16], [9; 16], [1; 512])
 }
 
-// A key of four leaves is begun, and half of it grown.
-fn begin(rt: &HostRuntime, plan: Plan, work: &mut [u8; 4096]) -> anyhow::Result<Making> {
-    println!(rt;
-        "A key of height {} is begun under the practice hash, with Winternitz digits of four bits.",
-        plan.height()
-    )?;
-    let mut maker = begun(plan);
-    for _ in 0..2u8 {
-        match maker.grow(work) {
-            Ok(grown) => println!(rt; "A leaf is grown: {grown} in.")?,
-            Err(refusal) => tell_refusal(rt, "Growing", refusal)?,
-        }
-    }
-    Ok(maker)
-}
-
 // The key record is written; an output that is too short is refused.
 fn publish<'a>(
     rt: &HostRuntime,
@@ -58,37 +42,6 @@ fn publish<'a>(
     let length = key.key(out).unwrap_or(0).min(1024);
     println!(rt; "The key record has {length} bytes. It goes into the boxes; it holds no secret.")?;
     Ok(&out[..length])
-}
-
-// An order is signed, and the record handed to a verifier that has the key record and nothing else.
-fn release(
-    rt: &HostRuntime,
-    key: &mut Signing,
-    record: &[u8],
-    order: u8,
-    work: &mut [u8; 4096],
-) -> anyhow::Result<[u8; RELEASE]> {
-    let stamp = [order; 16];
-    let mut out = [0; RELEASE];
-    match key.sign(&stamp, &mut out, work) {
-        Ok((length, leaf)) => {
-            println!(rt;
-                "The order with stamp {order} is signed with leaf {leaf}: a release record of {length} bytes."
-            )?;
-            check(rt, record, &stamp, &out)?;
-        }
-        Err(refusal) => tell_refusal(rt, "Signing, with no leaf left,", refusal)?,
-    }
-    Ok(out)
-}
-
-fn check(rt: &HostRuntime, record: &[u8], stamp: &[u8; 16], release: &[u8]) -> anyhow::Result<()> {
-    let opened = open::<Practice, Winternitz4>(record)?;
-    match verify::<Practice, Winternitz4>(&opened, stamp, release) {
-        Ok(leaf) => println!(rt; "  The verifier opens the box: leaf {leaf}.")?,
-        Err(refusal) => tell_refusal(rt, "  Opening the box", refusal)?,
-    }
-    Ok(())
 }
 
 // A leaf is passed over, and there is no way back.
@@ -104,79 +57,149 @@ fn skip(rt: &HostRuntime, key: &mut Signing) -> anyhow::Result<()> {
     Ok(())
 }
 
-// A record that somebody makes with the stolen seed, for a leaf and an order of their own.
-fn forge(plan: Plan, leaf: u16, order: u8, work: &mut [u8; 4096]) -> [u8; RELEASE] {
-    let mut twin = begun(plan).finish(work);
-    let mut out = [0; RELEASE];
-    let _ = twin.skip(leaf);
-    let _ = twin.sign(&[order; 16], &mut out, work);
-    out
+// A box: it has the key record and nothing else.
+#[derive(Clone, Copy)]
+struct Locked<'a> {
+    rt: &'a HostRuntime,
+    record: &'a [u8],
 }
 
-// Records come back: the first as it was, the others tampered with or forged; the verifier opens for all of them but the last.
-fn specimens(
-    rt: &HostRuntime,
-    key: &Signing,
-    record: &[u8],
-    first: &[u8; RELEASE],
-    second: &[u8; RELEASE],
+impl Locked<'_> {
+    // Hands a release record to the verifier.
+    fn check(&self, order: u8, release: &[u8; RELEASE]) -> anyhow::Result<()> {
+        let opened = open::<Practice, Winternitz4>(self.record)?;
+        match verify::<Practice, Winternitz4>(&opened, &[order; 16], release) {
+            Ok(leaf) => println!(self.rt; "  The verifier opens the box: leaf {leaf}.")?,
+            Err(refusal) => tell_refusal(self.rt, "  Opening the box", refusal)?,
+        }
+        Ok(())
+    }
+}
+
+// Who grows the key and signs with it.
+#[derive(Drop)]
+struct Depot<'a> {
+    rt: &'a HostRuntime,
     plan: Plan,
-    work: &mut [u8; 4096],
-) -> anyhow::Result<()> {
-    println!(rt; "The record of leaf 0 comes back as it was.")?;
-    tell_trace(rt, |report| key.trace(&[1; 16], first, report, work))?;
-    println!(rt; "It comes back with a bit of its first string turned.")?;
-    let mut turned = *first;
-    tampering::step_twin(&mut turned, 0);
-    check(rt, record, &[1; 16], &turned)?;
-    tell_trace(rt, |report| key.trace(&[1; 16], &turned, report, work))?;
-    println!(rt; "The record of leaf 1 comes back with its first two strings shifted.")?;
-    let mut shifted = *second;
-    tampering::pair_twin(&mut shifted, 0);
-    check(rt, record, &[255; 16], &shifted)?;
-    tell_trace(rt, |report| key.trace(&[255; 16], &shifted, report, work))?;
-    println!(rt; "A record of leaf 0 comes back for stamp 7, which was never signed.")?;
-    let forged = forge(plan, 0, 7, work);
-    check(rt, record, &[7; 16], &forged)?;
-    tell_trace(rt, |report| key.trace(&[7; 16], &forged, report, work))?;
-    println!(rt; "A record of leaf 0 comes back with a string of its way up changed.")?;
-    let mut cut = *first;
-    tampering::step_twin(&mut cut, 35);
-    check(rt, record, &[1; 16], &cut)?;
-    tell_trace(rt, |report| key.trace(&[1; 16], &cut, report, work))
+    work: [u8; 4096],
+}
+
+impl Depot<'_> {
+    // A key of four leaves is begun, and half of it grown.
+    fn begin(&mut self) -> anyhow::Result<Making> {
+        println!(self.rt;
+            "A key of height {} is begun under the practice hash, with Winternitz digits of four bits.",
+            self.plan.height()
+        )?;
+        let mut maker = begun(self.plan);
+        for _ in 0..2u8 {
+            match maker.grow(&mut self.work) {
+                Ok(grown) => println!(self.rt; "A leaf is grown: {grown} in.")?,
+                Err(refusal) => tell_refusal(self.rt, "Growing", refusal)?,
+            }
+        }
+        Ok(maker)
+    }
+
+    // An order is signed, and the record handed to a box.
+    fn release(
+        &mut self,
+        key: &mut Signing,
+        locked: Locked<'_>,
+        order: u8,
+    ) -> anyhow::Result<[u8; RELEASE]> {
+        let mut out = [0; RELEASE];
+        match key.sign(&[order; 16], &mut out, &mut self.work) {
+            Ok((length, leaf)) => {
+                println!(self.rt;
+                    "The order with stamp {order} is signed with leaf {leaf}: a release record of {length} bytes."
+                )?;
+                locked.check(order, &out)?;
+            }
+            Err(refusal) => tell_refusal(self.rt, "Signing, with no leaf left,", refusal)?,
+        }
+        Ok(out)
+    }
+
+    // A record that somebody makes with the stolen seed, for a leaf and an order of their own.
+    fn forge(&mut self, leaf: u16, order: u8) -> [u8; RELEASE] {
+        let mut twin = begun(self.plan).finish(&mut self.work);
+        let mut out = [0; RELEASE];
+        let _ = twin.skip(leaf);
+        let _ = twin.sign(&[order; 16], &mut out, &mut self.work);
+        out
+    }
+
+    // What tracing a record answers.
+    fn trace(&mut self, key: &Signing, order: u8, release: &[u8; RELEASE]) -> anyhow::Result<()> {
+        let mut report = [0; 64];
+        match key.trace(&[order; 16], release, &mut report, &mut self.work) {
+            Ok(verdict) => tell_verdict(self.rt, verdict, &report),
+            Err(refusal) => tell_refusal(self.rt, "  Tracing", refusal),
+        }
+    }
+
+    // Records come back: the first as it was, the others tampered with or forged; the verifier opens for all of them but the last.
+    fn specimens(
+        &mut self,
+        key: &Signing,
+        locked: Locked<'_>,
+        first: &[u8; RELEASE],
+        second: &[u8; RELEASE],
+    ) -> anyhow::Result<()> {
+        println!(self.rt; "The record of leaf 0 comes back as it was.")?;
+        self.trace(key, 1, first)?;
+        println!(self.rt; "It comes back with a bit of its first string turned.")?;
+        let mut turned = *first;
+        tampering::step_twin(&mut turned, 0);
+        locked.check(1, &turned)?;
+        self.trace(key, 1, &turned)?;
+        println!(self.rt; "The record of leaf 1 comes back with its first two strings shifted.")?;
+        let mut shifted = *second;
+        tampering::pair_twin(&mut shifted, 0);
+        locked.check(255, &shifted)?;
+        self.trace(key, 255, &shifted)?;
+        println!(self.rt; "A record of leaf 0 comes back for stamp 7, which was never signed.")?;
+        let forged = self.forge(0, 7);
+        locked.check(7, &forged)?;
+        self.trace(key, 7, &forged)?;
+        println!(self.rt; "A record of leaf 0 comes back with a string of its way up changed.")?;
+        let mut cut = *first;
+        tampering::step_twin(&mut cut, 35);
+        locked.check(1, &cut)?;
+        self.trace(key, 1, &cut)
+    }
 }
 
 fn main(rt: HostRuntime) -> anyhow::Result<()> {
     for line in WORDS {
         println!(rt; "{line}")?;
     }
-    let mut work = [0; 4096];
     if let Err(refusal) = Plan::new(9) {
         tell_refusal(&rt, "A plan of height 9", refusal)?;
     }
-    let plan = Plan::new(2)?;
-    let maker = begin(&rt, plan, &mut work)?;
-    let mut key = maker.finish(&mut work);
+    let mut depot = Depot {
+        rt: &rt,
+        plan: Plan::new(2)?,
+        work: [0; 4096],
+    };
+    let maker = depot.begin()?;
+    let mut key = maker.finish(&mut depot.work);
     println!(rt; "The leaves that lacked are grown, and the key is in service.")?;
     let mut out = [0; 1024];
     let record = publish(&rt, &key, &mut out)?;
-    let first = release(&rt, &mut key, record, 1, &mut work)?;
-    let second = release(&rt, &mut key, record, 255, &mut work)?;
+    let locked = Locked { rt: &rt, record };
+    let first = depot.release(&mut key, locked, 1)?;
+    let second = depot.release(&mut key, locked, 255)?;
     skip(&rt, &mut key)?;
-    let _ = release(&rt, &mut key, record, 3, &mut work)?;
-    let _ = release(&rt, &mut key, record, 4, &mut work)?;
-    specimens(&rt, &key, record, &first, &second, plan, &mut work)?;
+    let _ = depot.release(&mut key, locked, 3)?;
+    let _ = depot.release(&mut key, locked, 4)?;
+    depot.specimens(&key, locked, &first, &second)?;
     let retired = key.retire();
     println!(rt; "The key is retired: it signs no more, and still traces.")?;
     println!(rt; "The record of leaf 0 comes back once more.")?;
-    tell_trace(
-        &rt,
-        |report| retired.trace(&[1; 16], &first, report, &mut work),
-    )?;
+    depot.trace(&retired, 1, &first)?;
     println!(rt; "A record of leaf 2, which was skipped, comes back for stamp 0.")?;
-    let forged = forge(plan, 2, 0, &mut work);
-    tell_trace(
-        &rt,
-        |report| retired.trace(&[0; 16], &forged, report, &mut work),
-    )
+    let forged = depot.forge(2, 0);
+    depot.trace(&retired, 0, &forged)
 }

@@ -1,5 +1,5 @@
 // From bytes to outcomes.
-ghost use Rattle.std.specs.Prelude.{◌≡◌, ℕ, ◌<◌, List, ◌∷◌, length, IfOk, Result, OnErr, slice_index};
+ghost use Rattle.std.specs.Prelude.{◌≡◌, ℕ, ◌<◌, List, ◌∷◌, length, IfOk, Result, OnErr};
 ghost use Rattle.schemes.specs.Known.{hash_numbered, code_numbered};
 ghost use Rattle.orders.specs.Outcomes.{Outcomes, after_record};
 ghost use Rattle.orders.specs.Reports.{Refused, Checked, CheckedBy, Unknown, Reports};
@@ -15,6 +15,7 @@ use codes::Code;
 use hashes::TreeHash;
 use schemes::{Scheme, Task};
 use std::alloc::{AllocError, Global};
+use strings::byte_at;
 use verifier::{OpenedKey, RecordKind, Refusal, body_of, open, verify};
 
 // The outcome of the first order in `bytes`, and the bytes of the others.
@@ -103,13 +104,6 @@ fn unknown(heap: Global, key: &[u8]) -> Report
         Ok(_) => refused_key(heap, Refusal::Parameters),
         Err(refusal) => refused_key(heap, refusal),
     }
-}
-
-// The byte at a place, 0 past the end.
-fn byte_at(bytes: &[u8], i: usize) -> u8
-    ensures { result ≡ slice_index bytes.now i }
-{
-    bytes.get(i).copied().unwrap_or(0)
 }
 
 // The report by the hash and the code that the key record names.

@@ -1,11 +1,12 @@
 // record_cases: grows the key of each case, signs, and compares both records with those that an independent model wrote.
 #![tactic(auto)]
 
-use aes128::Aes128Hash;
+ghost use Rattle.std.specs.Prelude.{⊤};
+
 use anyhow::anyhow;
-use codes::{Code, LamportDiffie, Winternitz2, Winternitz4};
-use hashes::{ChainHash, Practice, TreeHash};
-use sha256::Sha256Hash;
+use codes::Code;
+use hashes::TreeHash;
+use schemes::{Scheme, Task};
 use signer::{Maker, Plan, Signer};
 use std::fs;
 use verifier::{Refusal, open, verify};
@@ -51,10 +52,9 @@ impl<'a> Case<'a> {
 
     // Whether the case has this record after `at` bytes of records.
     fn has(&self, record: &[u8], at: usize) -> bool {
-        match self.records.get(at..) {
-            Some(records) => records.starts_with(record),
-            None => false,
-        }
+        self.records
+            .get(at..)
+            .is_some_and(|records| records.starts_with(record))
     }
 }
 
@@ -62,52 +62,60 @@ fn verdict(holds: bool) -> &'static str {
     if holds { "pass" } else { "fail" }
 }
 
-fn run_case<H: TreeHash, C: Code>(rt: &HostRuntime, case: &Case<'_>) -> anyhow::Result<()> {
-    let Ok(mut signer) = case.grown::<H, C>() else {
-        return Err(anyhow!("a case with a bad height"));
-    };
-    let mut work = [0; 4096];
-    let mut key = [0; 1024];
-    let mut release = [0; 8192];
-    let size = signer.key(&mut key).unwrap_or(0);
-    let key = &key[..size.min(1024)];
-    let _ = signer.skip(u16::from(case.leaf));
-    let (size, _) = signer
-        .sign(case.stamp, &mut release, &mut work)
-        .unwrap_or((0, 0));
-    let release = &release[..size.min(8192)];
-    let key_verdict = verdict(case.has(key, 0));
-    let release_verdict = verdict(case.has(release, key.len()));
-    print!(rt; "key record {key_verdict}, release record {release_verdict}, ")?;
-    if let Ok(opened) = open::<H, C>(key)
-        && let Ok(leaf) = verify::<H, C>(&opened, case.stamp, release)
-    {
-        println!(rt; "verified at leaf {leaf}")?;
-    }
-    Ok(())
+// Grows the key of a case and compares its records.
+#[derive(Clone, Copy)]
+struct Compare<'a, 'c> {
+    rt: &'a HostRuntime,
+    case: Case<'c>,
 }
 
-fn run<H: TreeHash, C: Code>(rt: &HostRuntime) -> anyhow::Result<()> {
-    let hash = H::NUMBER;
-    let code = C::NUMBER;
+impl Task for Compare<'_, '_> {
+    type Output = anyhow::Result<()>;
+
+    // What is printed is not said.
+    ghost gives = { λ _ _ _ _ _. ⊤ };
+
+    fn run<H: TreeHash, C: Code>(&mut self) -> anyhow::Result<()> {
+        let case = self.case;
+        let mut signer = case.grown::<H, C>()?;
+        let mut work = [0; 4096];
+        let mut key = [0; 1024];
+        let mut release = [0; 8192];
+        let size = signer.key(&mut key).unwrap_or(0);
+        let key = &key[..size.min(1024)];
+        let _ = signer.skip(u16::from(case.leaf));
+        let (size, _) = signer
+            .sign(case.stamp, &mut release, &mut work)
+            .unwrap_or((0, 0));
+        let release = &release[..size.min(8192)];
+        let key_verdict = verdict(case.has(key, 0));
+        let release_verdict = verdict(case.has(release, key.len()));
+        print!(self.rt; "key record {key_verdict}, release record {release_verdict}, ")?;
+        if let Ok(opened) = open::<H, C>(key)
+            && let Ok(leaf) = verify::<H, C>(&opened, case.stamp, release)
+        {
+            println!(self.rt; "verified at leaf {leaf}")?;
+        }
+        Ok(())
+    }
+}
+
+// The case of the hash and the code with these numbers.
+fn run(rt: &HostRuntime, hash: u8, code: u8) -> anyhow::Result<()> {
     let path = format!(in rt.alloc(); "records_{hash}_{code}.in")?;
     let bytes = fs::read(rt, path.as_str())?;
-    let height = bytes.first().copied().unwrap_or(0);
-    print!(rt; "hash {hash}, code {code}, height {height}: ")?;
     let Some(case) = Case::read(bytes.as_slice()) else {
         return Err(anyhow!("a short case"));
     };
-    run_case::<H, C>(rt, &case)
-}
-
-fn run_codes<H: TreeHash>(rt: &HostRuntime) -> anyhow::Result<()> {
-    run::<H, LamportDiffie>(rt)?;
-    run::<H, Winternitz2>(rt)?;
-    run::<H, Winternitz4>(rt)
+    print!(rt; "hash {hash}, code {code}, height {}: ", case.height)?;
+    Scheme::numbered(hash, code)?.run(&mut Compare { rt, case })
 }
 
 fn main(rt: HostRuntime) -> anyhow::Result<()> {
-    run_codes::<Sha256Hash>(&rt)?;
-    run_codes::<Aes128Hash>(&rt)?;
-    run_codes::<Practice>(&rt)
+    for hash in 1..=3 {
+        for code in 1..=3 {
+            run(&rt, hash, code)?;
+        }
+    }
+    Ok(())
 }

@@ -1,5 +1,6 @@
 // Answers, and the lines that are printed of them.
 use std::fmt;
+use strings::Hex;
 use verifier::Refusal;
 
 // A node that a maker holds.
@@ -34,19 +35,6 @@ pub enum Answer {
     Refused(Refusal),
     NotNow,
     NotACall,
-}
-
-// Bytes, printed as hex digits.
-#[derive(Clone, Copy)]
-struct Hex<'a>(&'a [u8]);
-
-impl fmt::Display for Hex<'_> {
-    fn fmt<W: fmt::Write>(&self, f: &mut fmt::Formatter<W>) -> fmt::Result {
-        for byte in self.0 {
-            write!(f, "{byte:02x}")?;
-        }
-        Ok(())
-    }
 }
 
 impl fmt::Display for Node {

@@ -1,9 +1,13 @@
-// Strings of 16 bytes: exclusive or, comparison, numbers as strings, and rows of strings in a buffer.
+// Strings of 16 bytes: exclusive or, comparison, numbers as strings, and rows of strings in a buffer; single bytes, and bytes in hex.
 #![tactic(auto)]
 
-ghost use Rattle.std.specs.Prelude.{◌≡◌, ℕ, ◌+◌, ◌*◌, ◌^◌, ◌<◌, ◌≤◌, ◌++◌, length, take, drop, Decides, ◌≢◌};
+ghost use Rattle.std.specs.Prelude.{◌≡◌, ℕ, ◌+◌, ◌*◌, ◌^◌, ◌<◌, ◌≤◌, ◌++◌, length, take, drop, Decides, ◌≢◌, slice_index};
 ghost use Rattle.std.specs.Str.{bytes_eq};
 ghost use Rattle.strings.specs.Strings.{xor, numeral, string_at, put_string};
+
+mod hex;
+
+pub use hex::Hex;
 
 // The string of zeros.
 pub const ZERO: [u8; 16] = [0; 16];
@@ -34,6 +38,13 @@ pub fn number(n: u128) -> [u8; 16]
     ensures known { (m : ℕ) → m < 2 ^ 128 → numeral m ≡ result → m ≡ n }
 {
     n.to_le_bytes()
+}
+
+// The byte at a place, 0 past the end.
+pub fn byte_at(bytes: &[u8], place: usize) -> u8
+    ensures { result ≡ slice_index bytes.now place }
+{
+    bytes.get(place).copied().unwrap_or(0)
 }
 
 // String number `i` of the row of strings in `bytes`.
