@@ -1,37 +1,29 @@
-/* Steps of both hashes by BearSSL's portable C, in place. */
+/* Steps by BearSSL's portable C. */
 #include <bearssl.h>
-#include <string.h>
+#include "steps.h"
 
-/* One SHA-256 of 36 bytes to a turn. */
-void bearssl_sha256_steps(const unsigned char *key, unsigned char *string, uint32_t turns)
+static void sha256(const unsigned char *bytes, unsigned char *digest)
 {
-    unsigned char bytes[36], digest[32];
-    memcpy(bytes, "STEP", 4);
-    memcpy(bytes + 4, key, 16);
-    while (turns-- > 0) {
-        br_sha256_context sha;
-        memcpy(bytes + 20, string, 16);
-        br_sha256_init(&sha);
-        br_sha256_update(&sha, bytes, sizeof bytes);
-        br_sha256_out(&sha, digest);
-        memcpy(string, digest, 16);
-    }
+    br_sha256_context sha;
+    br_sha256_init(&sha);
+    br_sha256_update(&sha, bytes, 36);
+    br_sha256_out(&sha, digest);
 }
 
-/* One key schedule and one block to a turn: CBC of one block from a zero vector is the bare cipher. */
-#define AES_STEPS(KIND) \
-void bearssl_aes_##KIND##_steps(const unsigned char *key, unsigned char *string, uint32_t turns) \
+SHA256_STEPS(bearssl_sha256_steps, sha256)
+
+/* CBC of one block from a zero vector is the bare cipher. */
+#define AES(KIND) \
+static void KIND(const unsigned char *key, const unsigned char *string, unsigned char *block) \
 { \
-    while (turns-- > 0) { \
-        br_aes_##KIND##_cbcenc_keys keys; \
-        unsigned char vector[16] = { 0 }, block[16]; \
-        memcpy(block, string, 16); \
-        br_aes_##KIND##_cbcenc_init(&keys, key, 16); \
-        br_aes_##KIND##_cbcenc_run(&keys, vector, block, 16); \
-        for (int j = 0; j < 16; j++) \
-            string[j] ^= block[j]; \
-    } \
-}
+    br_aes_##KIND##_cbcenc_keys keys; \
+    unsigned char vector[16] = { 0 }; \
+    memcpy(block, string, 16); \
+    br_aes_##KIND##_cbcenc_init(&keys, key, 16); \
+    br_aes_##KIND##_cbcenc_run(&keys, vector, block, 16); \
+} \
+\
+AES_STEPS(bearssl_aes_##KIND##_steps, KIND)
 
-AES_STEPS(big)
-AES_STEPS(ct)
+AES(big)
+AES(ct)

@@ -6,14 +6,6 @@ use std::hint::black_box;
 use std::process::exit;
 use std::time::Instant;
 
-// The calls of bench/bearssl.c: steps in place.
-#[cfg(bearssl)]
-unsafe extern "C" {
-    fn bearssl_sha256_steps(key: *const u8, string: *mut u8, turns: u32);
-    fn bearssl_aes_big_steps(key: *const u8, string: *mut u8, turns: u32);
-    fn bearssl_aes_ct_steps(key: *const u8, string: *mut u8, turns: u32);
-}
-
 struct Inputs {
     key: String16,
     left: String16,
@@ -69,15 +61,41 @@ macro_rules! plain_pairs {
     };
 }
 
-#[cfg(bearssl)]
-macro_rules! bearssl_steps {
+// Steps in place, by bench/bearssl.c or bench/openssl.c.
+#[cfg(any(bearssl, openssl))]
+macro_rules! library_steps {
     ($f:ident) => {
         |i, turns, place| {
+            unsafe extern "C" {
+                fn $f(key: *const u8, string: *mut u8, turns: u32);
+            }
             let mut string = i.left;
             unsafe { $f(i.key.as_ptr(), string.as_mut_ptr(), turns.into()) };
             string[place]
         }
     };
+}
+
+// A step of hash 1 by a library.
+#[cfg(any(bearssl, openssl))]
+const fn sha256(other: &'static str, theirs: Run) -> Case {
+    Case {
+        what: "SHA-256 of 36 bytes",
+        other,
+        ours: our_steps!(sha256_steps),
+        theirs,
+    }
+}
+
+// A step of hash 2 by a library.
+#[cfg(any(bearssl, openssl))]
+const fn aes128(other: &'static str, theirs: Run) -> Case {
+    Case {
+        what: "AES-128, key schedule and one block",
+        other,
+        ours: our_steps!(aes128_steps),
+        theirs,
+    }
 }
 
 const CASES: &[Case] = &[
@@ -106,26 +124,29 @@ const CASES: &[Case] = &[
         theirs: plain_pairs!(aes128_pair),
     },
     #[cfg(bearssl)]
-    Case {
-        what: "SHA-256 of 36 bytes",
-        other: "BearSSL's br_sha256",
-        ours: our_steps!(sha256_steps),
-        theirs: bearssl_steps!(bearssl_sha256_steps),
-    },
+    sha256("BearSSL's br_sha256", library_steps!(bearssl_sha256_steps)),
     #[cfg(bearssl)]
-    Case {
-        what: "AES-128, key schedule and one block",
-        other: "BearSSL's br_aes_big",
-        ours: our_steps!(aes128_steps),
-        theirs: bearssl_steps!(bearssl_aes_big_steps),
-    },
+    aes128(
+        "BearSSL's br_aes_big",
+        library_steps!(bearssl_aes_big_steps),
+    ),
     #[cfg(bearssl)]
-    Case {
-        what: "AES-128, key schedule and one block",
-        other: "BearSSL's br_aes_ct",
-        ours: our_steps!(aes128_steps),
-        theirs: bearssl_steps!(bearssl_aes_ct_steps),
-    },
+    aes128("BearSSL's br_aes_ct", library_steps!(bearssl_aes_ct_steps)),
+    #[cfg(openssl)]
+    sha256(
+        "OpenSSL's SHA256 (with the processor's SHA or vector instructions)",
+        library_steps!(openssl_sha256_steps),
+    ),
+    #[cfg(openssl)]
+    aes128(
+        "OpenSSL's AES_encrypt (in assembly, without AES instructions)",
+        library_steps!(openssl_aes_steps),
+    ),
+    #[cfg(openssl)]
+    aes128(
+        "OpenSSL's EVP_aes_128_ecb (with the processor's AES instructions)",
+        library_steps!(openssl_evp_steps),
+    ),
 ];
 
 fn inputs(random: &mut Random) -> Inputs {
@@ -203,6 +224,12 @@ pub fn run(rounds: usize) {
             *theirs = theirs.min(time(case.theirs, &inputs));
         }
     }
+    #[cfg(all(openssl, target_arch = "x86_64"))]
+    println!(
+        "this processor has SHA instructions: {}; AES instructions: {}",
+        is_x86_feature_detected!("sha"),
+        is_x86_feature_detected!("aes")
+    );
     for (case, (ours, theirs)) in CASES.iter().zip(least) {
         let (what, other, ratio) = (case.what, case.other, ours / theirs);
         println!("{what}: ours {ours:.0} ns, {other} {theirs:.0} ns, ratio {ratio:.2}");

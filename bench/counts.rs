@@ -1,9 +1,9 @@
 // How often the calls call the hash: what the scheme says, what the plain implementation does, and what callgrind counted of the proved
 // library, which has no counters of its own.
-use crate::lives;
+use crate::lives::{self, by_numbers};
 use crate::plain::String16;
-use crate::scheme::{Aes128, Code, Hash, LamportDiffie, Sha256, Winternitz2, Winternitz4};
-use crate::speed::{Case, LIVES, NAMES, live_ours};
+use crate::scheme::*;
+use crate::speed::{COMBINATIONS, Case, LIVES, NAMES, live_ours, parts};
 use std::cell::Cell;
 use std::hint::black_box;
 use std::marker::PhantomData;
@@ -133,20 +133,6 @@ fn counted(call: impl FnOnce() -> bool) -> Count {
     COUNT.get()
 }
 
-// From whole lives to the calls in them.
-fn parts<T: Copy + Sub<Output = T>>([verify, grow, finish, keys, sign, trace]: [T; 6]) -> [T; 6] {
-    [
-        verify,
-        grow,
-        finish,
-        keys - finish,
-        sign - finish,
-        trace - sign,
-    ]
-}
-
-const COMBINATIONS: [(u8, u8); 6] = [(1, 1), (1, 2), (1, 3), (2, 1), (2, 2), (2, 3)];
-
 // Callgrind writes what it has counted each time this is entered.
 #[unsafe(no_mangle)]
 #[inline(never)]
@@ -214,18 +200,8 @@ pub fn compare(height: u8, path: Option<&String>) {
     for height in [4, 8] {
         for (hash, code) in COMBINATIONS {
             let case = Case::new(hash, code, height);
-            let by = |h: u8| -> [Count; 6] {
-                match (h, code) {
-                    (1, 1) => plain_counts::<Sha256, LamportDiffie>(&case),
-                    (1, 2) => plain_counts::<Sha256, Winternitz2>(&case),
-                    (1, _) => plain_counts::<Sha256, Winternitz4>(&case),
-                    (_, 1) => plain_counts::<Aes128, LamportDiffie>(&case),
-                    (_, 2) => plain_counts::<Aes128, Winternitz2>(&case),
-                    (_, _) => plain_counts::<Aes128, Winternitz4>(&case),
-                }
-            };
             let scheme = scheme_of(code, &case.stamp, height.into());
-            let plain = by(hash);
+            let plain = by_numbers!(hash, code, unreachable!(), plain_counts(&case));
             if plain != scheme {
                 fail(format!(
                     "hash {hash}, code {code}, height {height}: the scheme says {scheme:?}, plain Rust makes {plain:?}"

@@ -1,8 +1,9 @@
 // Compares the calls on whole keys with plain Rust: valid inputs and damaged ones.
-use crate::lives;
+use crate::lives::{self, by_numbers};
 use crate::ours::{self, Reply, Source};
 use crate::plain::{String16, xor};
 use crate::random::Random;
+use crate::scheme::*;
 use std::process::exit;
 
 // What was compared, and how often each answer came.
@@ -42,23 +43,32 @@ impl Tally {
         self.same("grow", (ours, nodes[0]), (plain, nodes[1]));
     }
 
+    // A record that both write into as much room.
+    fn record(
+        &mut self,
+        what: &str,
+        room: usize,
+        ours: impl Fn(&mut [u8]) -> Reply,
+        plain: impl Fn(&mut [u8]) -> Reply,
+    ) -> Vec<u8> {
+        let (mut our_bytes, mut plain_bytes) = (vec![7; room], vec![7; room]);
+        let (ours, plain) = (ours(&mut our_bytes), plain(&mut plain_bytes));
+        let reply = self.same(what, (ours, &our_bytes), (plain, &plain_bytes));
+        plain_bytes.truncate(reply.first);
+        plain_bytes
+    }
+
     fn key(&mut self, hash: u8, code: u8, source: &Source, room: usize) -> Vec<u8> {
-        let (mut ours, mut plain) = (vec![7; room], vec![7; room]);
-        let our_reply = ours::key(hash, code, source, 0, &mut ours);
-        let plain_reply = lives::key(hash, code, source, 0, &mut plain);
-        let reply = self.same("key", (our_reply, &ours), (plain_reply, &plain));
-        plain.truncate(reply.first);
-        plain
+        let ours = |out: &mut [u8]| ours::key(hash, code, source, 0, out);
+        let plain = |out: &mut [u8]| lives::key(hash, code, source, 0, out);
+        self.record("key", room, ours, plain)
     }
 
     #[rustfmt::skip]
     fn sign(&mut self, hash: u8, code: u8, source: &Source, leaf: u16, stamp: &String16, room: usize) -> Vec<u8> {
-        let (mut ours, mut plain) = (vec![7; room], vec![7; room]);
-        let our_reply = ours::sign(hash, code, source, leaf, stamp, &mut ours);
-        let plain_reply = lives::sign(hash, code, source, leaf, stamp, &mut plain);
-        let reply = self.same("sign", (our_reply, &ours), (plain_reply, &plain));
-        plain.truncate(reply.first);
-        plain
+        let ours = |out: &mut [u8]| ours::sign(hash, code, source, leaf, stamp, out);
+        let plain = |out: &mut [u8]| lives::sign(hash, code, source, leaf, stamp, out);
+        self.record("sign", room, ours, plain)
     }
 
     #[rustfmt::skip]
@@ -123,20 +133,19 @@ fn twin(random: &mut Random, source: &Source, levels: usize, record: &[u8]) -> V
 }
 
 // One key: all its calls, with every way to go wrong.
-fn compare_key(random: &mut Random, tally: &mut Tally, hash: u8, code: u8, height: u8) {
+fn compare_key<H: Hash, C: Code>(random: &mut Random, tally: &mut Tally, height: u8) {
+    let (hash, code) = (H::NUMBER, C::NUMBER);
     let source = random.source(height);
     let leaves = 1u16 << height;
-    let levels = [8, 7, 6][usize::from(code) - 1];
-    let count = [256, 69, 35][usize::from(code) - 1];
     let grown = random.below(usize::from(leaves) + 2) as u16;
     for level in 0..=height + 1 {
         tally.grow(hash, code, &source, grown, level);
     }
-    let key_size = 42 + 32 * (usize::from(height) + levels);
+    let key_size = C::key_length(height.into());
     let key = tally.key(hash, code, &source, key_size);
     tally.key(hash, code, &source, key_size - 1);
     tally.key(hash, code, &source, key_size + 30);
-    let size = 8 + 16 * (count + usize::from(height));
+    let size = C::release_length(height.into());
     let leaf = random.below(leaves.into()) as u16;
     let stamp = random.string();
     let record = tally.sign(hash, code, &source, leaf, &stamp, size);
@@ -156,7 +165,7 @@ fn compare_key(random: &mut Random, tally: &mut Tally, hash: u8, code: u8, heigh
     tally.verify(0, code, &key, &stamp, &record);
     for n in 0..40 {
         let bytes = if hash == 3 && n % 2 == 0 {
-            twin(random, &source, levels, &record)
+            twin(random, &source, C::LEVELS, &record)
         } else {
             damaged(random, &record)
         };
@@ -176,7 +185,13 @@ pub fn compare() {
         for code in 1..=3 {
             for height in [1, 1, 2, 2, 3, 4] {
                 for _ in 0..if hash == 3 { 30 } else { 2 } {
-                    compare_key(&mut random, &mut tally, hash, code, height);
+                    let (random, tally) = (&mut random, &mut tally);
+                    by_numbers!(
+                        hash,
+                        code,
+                        unreachable!(),
+                        compare_key(random, tally, height)
+                    );
                 }
             }
             for height in [0, 9, 255] {
@@ -195,7 +210,7 @@ pub fn compare() {
         tally.trace(3, code, &source, 255, &stamp, &stamp, &record);
     }
     println!(
-        "verify, grow, key, sign and trace, {} calls: all results agree",
+        "open and verify, grow and held, key, sign, retire and trace, {} calls: all results agree",
         tally.count
     );
     let of = |what: &[usize]| -> String {

@@ -13,10 +13,10 @@ fn reply(answer: Result<(usize, u16, u16), u8>) -> Reply {
     }
 }
 
-// Calls a function with the hash and the code of these numbers.
+// Calls a function with the hash and the code of these numbers; `none` where there are none.
 macro_rules! by_numbers {
-    ($hash:expr, $code:expr, $f:ident($($argument:expr),*)) => {
-        reply(match ($hash, $code) {
+    ($hash:expr, $code:expr, $none:expr, $f:ident($($argument:expr),*)) => {
+        match ($hash, $code) {
             (1, 1) => $f::<Sha256, LamportDiffie>($($argument),*),
             (1, 2) => $f::<Sha256, Winternitz2>($($argument),*),
             (1, 3) => $f::<Sha256, Winternitz4>($($argument),*),
@@ -26,10 +26,12 @@ macro_rules! by_numbers {
             (3, 1) => $f::<Practice, LamportDiffie>($($argument),*),
             (3, 2) => $f::<Practice, Winternitz2>($($argument),*),
             (3, 3) => $f::<Practice, Winternitz4>($($argument),*),
-            _ => Err(8),
-        })
+            _ => $none,
+        }
     };
 }
+
+pub(crate) use by_numbers;
 
 type Numbers = Result<(usize, u16, u16), u8>;
 
@@ -106,28 +108,38 @@ pub fn trace_with<H: Hash, C: Code>(source: &Source, leaf: u16, spent: &String16
 
 #[inline(never)]
 pub fn verify(hash: u8, code: u8, key: &[u8], stamp: &String16, record: &[u8]) -> Reply {
-    by_numbers!(hash, code, verify_with(key, stamp, record))
+    reply(by_numbers!(
+        hash,
+        code,
+        Err(8),
+        verify_with(key, stamp, record)
+    ))
 }
 
 #[rustfmt::skip]
 #[inline(never)]
 pub fn grow(hash: u8, code: u8, source: &Source, leaves: u16, level: u8, node: &mut String16) -> Reply {
-    by_numbers!(hash, code, grow_with(source, leaves, level, node))
+    reply(by_numbers!(hash, code, Err(8), grow_with(source, leaves, level, node)))
 }
 
 #[inline(never)]
 pub fn key(hash: u8, code: u8, source: &Source, turns: u32, out: &mut [u8]) -> Reply {
-    by_numbers!(hash, code, key_with(source, turns, out))
+    reply(by_numbers!(
+        hash,
+        code,
+        Err(8),
+        key_with(source, turns, out)
+    ))
 }
 
 #[rustfmt::skip]
 #[inline(never)]
 pub fn sign(hash: u8, code: u8, source: &Source, leaf: u16, stamp: &String16, out: &mut [u8]) -> Reply {
-    by_numbers!(hash, code, sign_with(source, leaf, stamp, out))
+    reply(by_numbers!(hash, code, Err(8), sign_with(source, leaf, stamp, out)))
 }
 
 #[rustfmt::skip]
 #[inline(never)]
 pub fn trace(hash: u8, code: u8, source: &Source, leaf: u16, spent: &String16, stamp: &String16, record: &[u8], report: &mut [u8; 64]) -> Reply {
-    by_numbers!(hash, code, trace_with(source, leaf, spent, stamp, record, report))
+    reply(by_numbers!(hash, code, Err(8), trace_with(source, leaf, spent, stamp, record, report)))
 }

@@ -51,6 +51,13 @@ pub trait Code {
     const LEVELS: usize;
     // The digits of a stamp: the first COUNT of them.
     fn digits(stamp: &String16) -> [u8; 256];
+    // The bytes of the records of a key.
+    fn key_length(height: usize) -> usize {
+        42 + 32 * (height + Self::LEVELS)
+    }
+    fn release_length(height: usize) -> usize {
+        8 + 16 * (Self::COUNT + height)
+    }
 }
 
 pub struct LamportDiffie;
@@ -284,8 +291,8 @@ type Find = ((u16, u16), [String16; 4]);
 
 impl<H: Hash, C: Code> Signer<H, C> {
     pub fn key(&self, out: &mut [u8]) -> Result<usize, u8> {
-        let masks = 32 * (self.origin.height + C::LEVELS);
-        let size = 42 + masks;
+        let size = C::key_length(self.origin.height);
+        let masks = size - 42;
         if out.len() < size {
             return Err(4);
         }
@@ -320,7 +327,7 @@ impl<H: Hash, C: Code> Signer<H, C> {
         if leaf == 1 << height {
             return Err(3);
         }
-        let size = 8 + 16 * (C::COUNT + height);
+        let size = C::release_length(height);
         if out.len() < size {
             return Err(4);
         }
@@ -445,7 +452,7 @@ fn header(bytes: &[u8], kind: u8) -> Result<(), u8> {
 
 // The leaf number and the strings of a release record.
 fn parts_of<C: Code>(height: usize, bytes: &[u8]) -> Result<(usize, &[u8]), u8> {
-    if bytes.len() != 8 + 16 * (C::COUNT + height) {
+    if bytes.len() != C::release_length(height) {
         return Err(10);
     }
     let leaf = usize::from(u16::from_le_bytes([bytes[6], bytes[7]]));
@@ -474,7 +481,7 @@ pub fn open<H: Hash, C: Code>(bytes: &[u8]) -> Result<Key<'_>, u8> {
         return Err(9);
     }
     let height = usize::from(bytes[8]);
-    if bytes.len() != 42 + 32 * (height + C::LEVELS) {
+    if bytes.len() != C::key_length(height) {
         return Err(10);
     }
     Ok(Key { bytes, height })

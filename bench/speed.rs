@@ -4,6 +4,7 @@ use crate::ours::{self, Source};
 use crate::plain::String16;
 use crate::random::Random;
 use std::hint::black_box;
+use std::ops::Sub;
 use std::time::Instant;
 
 // Hash number, code number and what the calls are given: a key of some height, and the record of one of its leaves.
@@ -63,6 +64,22 @@ pub const LIVES: [Life; 6] = [
 // The calls that they time, most of them by differences.
 pub const NAMES: [&str; 6] = ["verify", "grow all", "finish", "key", "sign", "trace"];
 
+// From whole lives to the calls in them.
+pub fn parts<T: Copy + Sub<Output = T>>(lives: [T; 6]) -> [T; 6] {
+    let [verify, grow, finish, keys, sign, trace] = lives;
+    [
+        verify,
+        grow,
+        finish,
+        keys - finish,
+        sign - finish,
+        trace - sign,
+    ]
+}
+
+// The hashes and codes that are measured.
+pub const COMBINATIONS: [(u8, u8); 6] = [(1, 1), (1, 2), (1, 3), (2, 1), (2, 2), (2, 3)];
+
 fn key_turns(height: u8) -> u32 {
     if height == 4 { 100_000 } else { 2_000_000 }
 }
@@ -75,18 +92,10 @@ fn buffer() -> Vec<u8> {
 // Lives a life by the calls of one module.
 macro_rules! live {
     ($by:ident, $life:expr, $case:expr) => {{
-        let Case {
-            hash,
-            code,
-            source,
-            leaf,
-            stamp,
-            key,
-            record,
-        } = $case;
-        let (hash, code, leaf) = (*hash, *code, *leaf);
+        let case: &Case = $case;
+        let (hash, code, source, stamp) = (case.hash, case.code, &case.source, &case.stamp);
         match $life {
-            Life::Verify => $by::verify(hash, code, key, stamp, record),
+            Life::Verify => $by::verify(hash, code, &case.key, stamp, &case.record),
             Life::Grow => {
                 let mut node = [0; 16];
                 let reply = $by::grow(hash, code, source, 1 << source.height, 0, &mut node);
@@ -98,9 +107,10 @@ macro_rules! live {
                 let turns = key_turns(source.height);
                 $by::key(hash, code, source, turns, &mut buffer())
             }
-            Life::Sign => $by::sign(hash, code, source, leaf, stamp, &mut buffer()),
+            Life::Sign => $by::sign(hash, code, source, case.leaf, stamp, &mut buffer()),
             Life::Trace => {
                 let mut report = [0; 64];
+                let (leaf, record) = (case.leaf, &case.record);
                 let reply = $by::trace(hash, code, source, leaf, stamp, stamp, record, &mut report);
                 black_box(report);
                 reply
@@ -115,25 +125,31 @@ pub fn live_ours(life: Life, case: &Case) -> ours::Reply {
 }
 
 #[inline(never)]
-pub fn live_plain(life: Life, case: &Case) -> ours::Reply {
+fn live_plain(life: Life, case: &Case) -> ours::Reply {
     live!(lives, life, case)
 }
 
+// Lives a life, by the proved library or in plain Rust.
+pub type Side = fn(Life, &Case) -> ours::Reply;
+
+pub const SIDES: [Side; 2] = [live_ours, live_plain];
+
 // Microseconds.
-fn time(run: fn(Life, &Case) -> ours::Reply, life: Life, case: &Case) -> f64 {
+fn time(side: Side, life: Life, case: &Case) -> f64 {
     let start = Instant::now();
-    black_box(black_box(run)(life, black_box(case)));
+    black_box(black_box(side)(life, black_box(case)));
     start.elapsed().as_nanos() as f64 / 1000.0
 }
 
-// The least times of each life, ours and plain.
-fn least(case: &Case, rounds: usize) -> [[f64; 2]; 6] {
-    let mut least = [[f64::MAX; 2]; 6];
+// The least times of the lives, of each side by turns.
+fn least(case: &Case, rounds: usize) -> [[f64; 6]; 2] {
+    let mut least = [[f64::MAX; 6]; 2];
     for _ in 0..rounds {
-        for (life, [ours, plain]) in LIVES.into_iter().zip(&mut least) {
+        for (which, life) in LIVES.into_iter().enumerate() {
             for _ in 0..if let Life::Verify = life { 20 } else { 1 } {
-                *ours = ours.min(time(live_ours, life, case));
-                *plain = plain.min(time(live_plain, life, case));
+                for (side, least) in SIDES.into_iter().zip(&mut least) {
+                    least[which] = least[which].min(time(side, life, case));
+                }
             }
         }
     }
@@ -144,7 +160,10 @@ pub fn run(rounds: usize) {
     let mut worst = [0f64; 6];
     println!("time in microseconds: ours, plain Rust, ratio");
     println!(
-        "  (grow all: 2^height calls of grow; finish: of a key with no leaf in; sign and trace: the differences of whole lives)"
+        "  (verify: open and verify; grow all: plan, begin, 2^height calls of grow, and held; finish: plan, begin, finish with no leaf in, and key;"
+    );
+    println!(
+        "  by differences of whole lives, key: another key; sign: skip and sign, less a key; trace: retire and trace; plain Rust has no plan and no retire)"
     );
     print!("  hash code height");
     for name in NAMES {
@@ -153,21 +172,15 @@ pub fn run(rounds: usize) {
     println!();
     for height in [4, 8] {
         let rounds = (rounds / if height == 4 { 100 } else { 350 }).max(2);
-        for (hash, code) in [(1, 1), (1, 2), (1, 3), (2, 1), (2, 2), (2, 3)] {
+        for (hash, code) in COMBINATIONS {
             let case = Case::new(hash, code, height);
-            let [verify, grow, finish, keys, sign, trace] = least(&case, rounds);
-            let minus = |a: [f64; 2], b: [f64; 2]| [a[0] - b[0], a[1] - b[1]];
-            let key = minus(keys, finish).map(|t| t / f64::from(key_turns(height)));
-            let times = [
-                verify,
-                grow,
-                finish,
-                key,
-                minus(sign, finish),
-                minus(trace, sign),
-            ];
+            let [ours, plain] = least(&case, rounds).map(|lives| {
+                let [verify, grow, finish, keys, sign, trace] = parts(lives);
+                let key = keys / f64::from(key_turns(height));
+                [verify, grow, finish, key, sign, trace]
+            });
             print!("  {hash:4} {code:4} {height:6}");
-            for ([ours, plain], worst) in times.into_iter().zip(&mut worst) {
+            for ((ours, plain), worst) in ours.into_iter().zip(plain).zip(&mut worst) {
                 let ratio = ours / plain;
                 *worst = worst.max(ratio);
                 let places = if plain < 1.0 {

@@ -1,6 +1,6 @@
 // How many bytes of stack the calls use, and how many the types take.
-use crate::ours::{Reply, type_size};
-use crate::speed::{Case, LIVES, Life, live_ours, live_plain};
+use crate::ours::type_size;
+use crate::speed::{COMBINATIONS, Case, Life, SIDES, Side};
 use std::hint::black_box;
 use std::thread;
 
@@ -38,53 +38,62 @@ fn touched(bottom: usize) -> usize {
 }
 
 // How deep a life goes.
-fn depth(run: fn(Life, &Case) -> Reply, life: Life, case: &Case) -> usize {
+fn depth(side: Side, life: Life, case: &Case) -> usize {
     let top = here();
     paint();
-    black_box(black_box(run)(life, case));
+    black_box(black_box(side)(life, case));
     top - touched(top - STACK / 2)
 }
 
+// The types by their numbers, from 1 on.
+const TYPES: [&str; 8] = [
+    "a maker",
+    "a signer",
+    "a retired signer",
+    "an opened key",
+    "a plan",
+    "a ledger",
+    "an origin",
+    "a release that was read",
+];
+
+// The lives that are measured, and the calls in each.
+const CALLS: [(Life, &str); 5] = [
+    (Life::Verify, "open and verify"),
+    (Life::Grow, "plan, begin, grow and held"),
+    (Life::Finish, "plan, begin, finish and key"),
+    (Life::Sign, "plan, begin, finish, skip and sign"),
+    (
+        Life::Trace,
+        "plan, begin, finish, skip, sign, retire and trace",
+    ),
+];
+
 pub fn run() {
-    let names = ["a maker", "a signer", "a retired signer", "an opened key"];
     print!("bytes of state:");
-    for (which, name) in (1..).zip(names) {
+    for (which, name) in (1..).zip(TYPES) {
         print!(" {name} {};", type_size(which));
     }
     println!(" the work buffer 4096");
-    println!(
-        "bytes of stack at height 8, ours and plain Rust, each with the key and the work buffer, which lie on the stack too"
-    );
-    println!(
-        "  (grow: begin and grow; finish: begin and finish; sign: and sign; trace: and sign and trace, with a buffer for the record)"
-    );
-    for (hash, code) in [(1, 1), (1, 2), (1, 3), (2, 1), (2, 2), (2, 3)] {
+    let depths = COMBINATIONS.map(|(hash, code)| {
         let case = Case::new(hash, code, 8);
-        let measure = move || {
-            LIVES.map(|life| {
-                let life = if let Life::Keys = life {
-                    Life::Finish
-                } else {
-                    life
-                };
-                [
-                    depth(live_ours, life, &case),
-                    depth(live_plain, life, &case),
-                ]
-            })
-        };
+        let measure = move || CALLS.map(|(life, _)| SIDES.map(|side| depth(side, life, &case)));
         let thread = thread::Builder::new().stack_size(4 * STACK);
-        let depths = thread.spawn(measure).unwrap().join().unwrap();
-        let [verify, grow, finish, _, sign, trace] = depths;
-        print!("  hash {hash}, code {code}:");
-        for (name, [ours, plain]) in [
-            ("verify", verify),
-            ("grow", grow),
-            ("finish", finish),
-            ("sign", sign),
-            ("trace", trace),
-        ] {
-            print!(" {name} {ours}, {plain};");
+        thread.spawn(measure).unwrap().join().unwrap()
+    });
+    println!("most bytes of stack in these calls at height 8: ours, plain Rust");
+    println!(
+        "  (what they work on lies there too: maker, signer, work buffer, with trace also the signed record; plain Rust has no plan and no retire)"
+    );
+    print!("  {:49}", "");
+    for (hash, code) in COMBINATIONS {
+        print!(" | hash {hash}, code {code}");
+    }
+    println!();
+    for (which, (_, calls)) in CALLS.into_iter().enumerate() {
+        print!("  {calls:49}");
+        for [ours, plain] in depths.map(|depths| depths[which]) {
+            print!(" | {ours:6} {plain:7}");
         }
         println!();
     }

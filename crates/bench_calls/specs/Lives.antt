@@ -105,7 +105,7 @@ abbrev pub signed_output : Hash → Code → Source → ℕ → List ℕ → Lis
 signed_output hash code source leaf stamp out =
     left_by (serving hash code source leaf) out (λ s. sign_output hash code s stamp out)
 
--- begin, finish, skip and sign, and trace another record
+-- begin, finish, skip and sign, and trace another record, in service or out of it
 abbrev pub traced : Hash → Code → Source → ℕ → List ℕ → List ℕ → List ℕ → Result (ℕ × ℕ × ℕ) Refusal
 traced hash code source leaf spent stamp bytes =
     after (serving hash code source leaf) (λ s. trace_answer hash code (sign_state code s spent (replicate 4232 0)) stamp bytes)

@@ -101,8 +101,8 @@ pub extern "C" fn sign_release(
     Reply::from(run_numbered(hash, code, &mut task))
 }
 
-// Begins and finishes a key, skips to a leaf where it can, signs the stamp `spent` where it can, and traces a record for `stamp`:
-// the verdict and its two numbers.
+// Begins and finishes a key, skips to a leaf where it can, signs the stamp `spent` where it can, retires the key, and traces a
+// record for `stamp`: the verdict and its two numbers.
 #[unsafe(no_mangle)]
 pub extern "C" fn trace_release(
     hash: u8,

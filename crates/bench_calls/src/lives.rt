@@ -147,7 +147,7 @@ impl Task for Sign<'_, '_> {
     }
 }
 
-// Begins and finishes a key, skips to a leaf, signs the stamp `spent` there, and traces a record for `stamp`.
+// Begins and finishes a key, skips to a leaf, signs the stamp `spent` there, retires the key, and traces a record for `stamp`.
 #[derive(Drop)]
 pub struct Trace<'a, 'o> {
     pub source: &'a Source,
@@ -168,6 +168,7 @@ impl Task for Trace<'_, '_> {
         let mut signer = serve::<H, C>(self.source, self.leaf, &mut work)?;
         let mut out = [0; 4232];
         let _ = signer.sign(self.spent, &mut out, &mut work);
-        signer.trace(self.stamp, self.release, self.report, &mut work)
+        let retired = signer.retire();
+        retired.trace(self.stamp, self.release, self.report, &mut work)
     }
 }
