@@ -8,8 +8,8 @@ ghost use Rattle.signer.specs.Views.{signing_of};
 ghost use Rattle.tree.specs.Meaning.{hash_of, code_of};
 
 use super::Session;
-use super::unchanged::{key, trace};
 use super::outputs::output_of;
+use super::unchanged::{key, trace};
 use crate::{Answer, Call};
 use codes::Code;
 use hashes::TreeHash;
