@@ -11,12 +11,7 @@ pub(crate) fn column_of(state: &[u8; 16], c: usize) -> [u8; 4]
     requires { c < 4 }
     ensures { result ≡ column state.now c }
 {
-    [
-        state[4 * c],
-        state[4 * c + 1],
-        state[4 * c + 2],
-        state[4 * c + 3],
-    ]
+    state.as_chunks::<4>().0[c]
 }
 
 pub(crate) fn from_columns(a: &[u8; 4], b: &[u8; 4], c: &[u8; 4], d: &[u8; 4]) -> [u8; 16]
@@ -37,10 +32,5 @@ pub(crate) fn rot_word(w: &[u8; 4]) -> [u8; 4]
 pub(crate) fn sub_word(w: &[u8; 4]) -> [u8; 4]
     ensures { result ≡ sub_word w.now }
 {
-    [
-        sub_byte(w[0]),
-        sub_byte(w[1]),
-        sub_byte(w[2]),
-        sub_byte(w[3]),
-    ]
+    w.map(sub_byte)
 }

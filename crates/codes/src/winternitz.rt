@@ -7,35 +7,6 @@ use super::code::Code;
 use super::widths::{DigitWidth, FourBits, TwoBits};
 use std::marker::PhantomData;
 
-// What the stamp's digits of `width` bits lack to 2 ^ width, in sum.
-fn stamp_checksum(stamp: &[u8; 16], width: usize) -> u16
-    requires { Width width }
-    ensures { result ≡ checksum width (cut width stamp.now) }
-{
-    let mut sum = 0;
-    for j in 0..128 / width {
-        sum += (1 << width) - u16::from(read_bits(stamp, width, j));
-    }
-    sum
-}
-
-// The digit at a place: first the stamp in digits of `width` bits, then its checksum in `ends` more.
-fn digit_at(stamp: &[u8; 16], width: usize, ends: usize, place: usize) -> u8
-    requires { (Width width) × (width * ends < 16) }
-    ensures { result ≡ winternitz width ends stamp.now place }
-{
-    let front = 128 / width;
-    if place < front {
-        return read_bits(stamp, width, place);
-    }
-    let top = (1 << width) - 1;
-    let end = place - front;
-    if end >= ends {
-        return top as u8;
-    }
-    (stamp_checksum(stamp, width) >> (width * (ends - 1 - end)) & top) as u8
-}
-
 // Winternitz: the stamp in digits of a width, and then its checksum.
 pub struct Winternitz<W> {
     pub width: PhantomData<W>,
@@ -46,6 +17,19 @@ pub type Winternitz2 = Winternitz<TwoBits>;
 
 // 32 digits of the stamp, 3 of its checksum.
 pub type Winternitz4 = Winternitz<FourBits>;
+
+impl<W: DigitWidth> Winternitz<W> {
+    // What the stamp's digits lack to 2 ^ WIDTH, in sum.
+    fn checksum(stamp: &[u8; 16]) -> u16
+        ensures { result ≡ checksum W.WIDTH (cut W.WIDTH stamp.now) }
+    {
+        let mut sum = 0;
+        for j in 0..128 / W::WIDTH {
+            sum += (1 << W::WIDTH) - u16::from(read_bits(stamp, W::WIDTH, j));
+        }
+        sum
+    }
+}
 
 impl<W: DigitWidth> Code for Winternitz<W> {
     const NUMBER: u8 = W::NUMBER;
@@ -81,6 +65,14 @@ impl<W: DigitWidth> Code for Winternitz<W> {
     ghost apart = { winternitz-apart W.WIDTH W.ENDS W.wide W.room };
 
     fn digit(stamp: &[u8; 16], place: usize) -> u8 {
-        digit_at(stamp, W::WIDTH, W::ENDS, place)
+        let front = 128 / W::WIDTH;
+        if place < front {
+            return read_bits(stamp, W::WIDTH, place);
+        }
+        let end = place - front;
+        if end >= W::ENDS {
+            return Self::TOP;
+        }
+        (Self::checksum(stamp) >> (W::WIDTH * (W::ENDS - 1 - end)) & u16::from(Self::TOP)) as u8
     }
 }

@@ -59,7 +59,7 @@ pub fn sha256(message: &[u8]) -> [u8; 32]
     ensures { result ≡ spec.sha256_of message.now }
 {
     let n = message.len();
-    let rest = &message[n - n % BLOCK..n];
+    let (_, rest) = message.as_chunks::<64>();
     let end = padded_length(rest.len());
     let last = pad(rest, n, end);
     let s = hash_blocks(INITIAL, message);
