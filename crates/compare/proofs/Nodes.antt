@@ -129,14 +129,13 @@ module _ (hash : Hash) (code : Code) (t : Traced) where
       (cases_lt a h)
 
   -- a node on the way up and the record's sibling beside it have the next node on the way as their parent
-  their-above : (d b : ℕ) → d < h → b ≡ t.leaf / 2 ^ d → above parent (h - d - 1) b (their_node hash code t (h - d) b) (their_sibling hash code t (h - d)) ≡ their_node hash code t (h - (d + 1)) (b / 2)
+  their-above : (d b : ℕ) → d < h → b ≡ t.leaf / 2 ^ d → above parent (h - (d + 1)) b (their_node hash code t (h - d) b) (their_sibling hash code t (h - d)) ≡ their_node hash code t (h - (d + 1)) (b / 2)
   their-above d b lt is =
       let at = their_node hash code t (h - d) in
-      let level : h - d - 1 ≡ h - (d + 1) = omega arith in
       let half : t.leaf / 2 ^ (d + 1) ≡ b / 2 = sym (shr-shr t.leaf d 1) ∙ ap (λ n. n / 2) (sym is) in
       let beside : (n : ℕ) → (n ≡ b → ⊥) → their_sibling hash code t (h - d) ≡ at n = λ n ne. sym (their-beside d n (omega arith) (λ e. ne (e ∙ sym is))) in
-      above-both parent at (h - d - 1) b (their_sibling hash code t (h - d)) (λ even. beside (2 * (b / 2) + 1) (λ e. omega arith)) (λ odd. beside (2 * (b / 2)) (λ e. omega arith))
-      ∙ (λ j. parent (level j) (at (2 * sym half j)) (at (2 * sym half j + 1)))
+      above-both parent at (h - (d + 1)) b (their_sibling hash code t (h - d)) (λ even. beside (2 * (b / 2) + 1) (λ e. omega arith)) (λ odd. beside (2 * (b / 2)) (λ e. omega arith))
+      ∙ (λ j. parent (h - (d + 1)) (at (2 * sym half j)) (at (2 * sym half j + 1)))
       ∙ sym (their-on d lt)
       ∙ ap (their_node hash code t (h - (d + 1))) half
 
@@ -150,7 +149,7 @@ module _ (hash : Hash) (code : Code) (t : Traced) where
   their-climb (suc a) d whole =
       let b = t.leaf / 2 ^ d in
       let next = their_node hash code t (h - (d + 1)) in
-      sym (climb-turn parent (their_sibling hash code t) h d b (their_node hash code t (h - d) b) (next (b / 2)) (omega arith) (sym (their-above d b (omega arith) refl)))
+      sym (climb-turn parent (their_sibling hash code t) (h - (d + 1)) (h - d) b (their_node hash code t (h - d) b) (next (b / 2)) (omega arith) (sym (their-above d b (omega arith) refl)))
       ∙ ap (λ n. climb parent (their_sibling hash code t) (h - (d + 1)) n (next n)) (shr-shr t.leaf d 1)
       ∙ their-climb a (d + 1) (omega arith)
 

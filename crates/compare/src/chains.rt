@@ -9,69 +9,44 @@ ghost use Rattle.tree.specs.Meaning.{hash_of, code_of};
 ghost use Rattle.tree.specs.Nodes.{raise, one_time};
 
 use crate::reports::four_strings;
-use crate::{Find, Sides, Subject};
+use crate::{Compared, Find, Sides, Subject};
 use codes::Code;
 use hashes::{ChainHash, TreeHash};
 use strings::{ZERO, put_string, same, string_at};
 
 // One step up a chain on both sides, from a height.
-fn step_both<H: ChainHash>(
-    key: &[u8; 16],
-    chain: u16,
-    height: u8,
-    ours: &[u8; 16],
-    theirs: &[u8; 16],
-) -> Sides
-    ensures ours { result.ours ≡ H.ChainHash.steps key.now ours.now }
-    ensures theirs { result.theirs ≡ H.ChainHash.steps key.now theirs.now }
-    ensures find { result.find ≡ step_find (H.ChainHash.steps key.now) chain height ours.now theirs.now }
+fn step_both<H: ChainHash>(key: &[u8; 16], chain: u16, height: u8, at: &Sides) -> Compared
+    ensures ours { result.sides.ours ≡ H.ChainHash.steps key.now at.now.ours }
+    ensures theirs { result.sides.theirs ≡ H.ChainHash.steps key.now at.now.theirs }
+    ensures find { result.find ≡ step_find (H.ChainHash.steps key.now) chain height at.now.ours at.now.theirs }
 {
-    let our_step = H::step(key, ours);
-    let their_step = H::step(key, theirs);
-    let find = if same(&our_step, &their_step) && !same(ours, theirs) {
-        Some(Find {
-            first: chain,
-            second: height as u16,
-            report: four_strings(ours, theirs, &ZERO, &ZERO),
-        })
-    } else {
-        None
-    };
-    Sides {
-        ours: our_step,
-        theirs: their_step,
-        find,
-    }
+    let ours = H::step(key, &at.ours);
+    let theirs = H::step(key, &at.theirs);
+    let broken = same(&ours, &theirs) && !same(&at.ours, &at.theirs);
+    let find = broken.then(|| Find {
+        first: chain,
+        second: height as u16,
+        report: four_strings(&at.ours, &at.theirs, &ZERO, &ZERO),
+    });
+    let sides = Sides { ours, theirs };
+    Compared { sides, find }
 }
 
 // Both sides of a chain raised from one height to another.
-fn climb_both<H: ChainHash>(
-    key: &[u8; 16],
-    chain: u16,
-    from: u8,
-    to: u8,
-    ours: &[u8; 16],
-    theirs: &[u8; 16],
-) -> Sides
+fn climb_both<H: ChainHash>(key: &[u8; 16], chain: u16, from: u8, to: u8, start: &Sides) -> Compared
     requires { from ≤ to }
-    ensures ours { result.ours ≡ raise (H.ChainHash.steps key.now) (to - from) ours.now }
-    ensures theirs { result.theirs ≡ raise (H.ChainHash.steps key.now) (to - from) theirs.now }
-    ensures find { result.find ≡ last_from (λ e. step_find (H.ChainHash.steps key.now) chain e (raise (H.ChainHash.steps key.now) (e - from) ours.now) (raise (H.ChainHash.steps key.now) (e - from) theirs.now)) from (to - from) }
+    ensures ours { result.sides.ours ≡ raise (H.ChainHash.steps key.now) (to - from) start.now.ours }
+    ensures theirs { result.sides.theirs ≡ raise (H.ChainHash.steps key.now) (to - from) start.now.theirs }
+    ensures find { result.find ≡ last_from (λ e. step_find (H.ChainHash.steps key.now) chain e (raise (H.ChainHash.steps key.now) (e - from) start.now.ours) (raise (H.ChainHash.steps key.now) (e - from) start.now.theirs)) from (to - from) }
 {
-    let mut our_string = *ours;
-    let mut their_string = *theirs;
-    let mut found = None;
+    let mut sides = *start;
+    let mut find = None;
     for e in from..to {
-        let above = step_both::<H>(key, chain, e, &our_string, &their_string);
-        our_string = above.ours;
-        their_string = above.theirs;
-        found = above.find.or(found);
+        let above = step_both::<H>(key, chain, e, &sides);
+        sides = above.sides;
+        find = above.find.or(find);
     }
-    Sides {
-        ours: our_string,
-        theirs: their_string,
-        find: found,
-    }
+    Compared { sides, find }
 }
 
 // The stamp's digit at a place, which never exceeds the top digit.
@@ -101,10 +76,8 @@ fn hidden<C: Code>(
 ) -> Option<Find>
     ensures { result ≡ hidden_find chain digit (revealed_height (code_of C.Code) entered.now chain) string.now }
 {
-    if digit >= revealed::<C>(entered, chain as usize) {
-        return None;
-    }
-    Some(Find {
+    let hides = digit < revealed::<C>(entered, chain as usize);
+    hides.then(|| Find {
         first: chain,
         second: digit as u16,
         report: four_strings(string, &ZERO, &ZERO, &ZERO),
@@ -114,8 +87,7 @@ fn hidden<C: Code>(
 // A chain of the leaf: its top on both sides, where they became one, and its string where that was not revealed.
 #[derive(Clone, Copy)]
 pub(crate) struct Chain {
-    pub ours: [u8; 16],
-    pub theirs: [u8; 16],
+    pub top: Sides,
     pub broken: Option<Find>,
     pub hidden: Option<Find>,
 }
@@ -131,8 +103,8 @@ impl<H: TreeHash, C: Code> Subject<'_, H, C> {
     // Compares a chain of the leaf.
     fn compare_chain(&self, chain: u16) -> Chain
         requires { chain < C.Code.COUNT }
-        ensures ours { result.ours ≡ our_chain (hash_of H.ChainHash H.TreeHash.own) (code_of C.Code) (traced_of self.now) chain C.Code.TOP }
-        ensures theirs { result.theirs ≡ their_chain (hash_of H.ChainHash H.TreeHash.own) (code_of C.Code) (traced_of self.now) chain C.Code.TOP }
+        ensures ours { result.top.ours ≡ our_chain (hash_of H.ChainHash H.TreeHash.own) (code_of C.Code) (traced_of self.now) chain C.Code.TOP }
+        ensures theirs { result.top.theirs ≡ their_chain (hash_of H.ChainHash H.TreeHash.own) (code_of C.Code) (traced_of self.now) chain C.Code.TOP }
         ensures broken { result.broken ≡ height_search (hash_of H.ChainHash H.TreeHash.own) (code_of C.Code) (traced_of self.now) chain }
         ensures hidden { result.hidden ≡ hidden_find_at (hash_of H.ChainHash H.TreeHash.own) (code_of C.Code) (traced_of self.now) chain }
     {
@@ -142,18 +114,11 @@ impl<H: TreeHash, C: Code> Subject<'_, H, C> {
         let ours = origin.chain_string::<H>(self.leaf, place, digit);
         let theirs = string_at(self.row, place);
         let hidden = hidden::<C>(&self.entered, chain, digit, &ours);
-        let Sides { ours, theirs, find } = climb_both::<H>(
-            &origin.hash_key,
-            chain,
-            digit,
-            C::TOP,
-            &ours,
-            &theirs,
-        );
+        let start = Sides { ours, theirs };
+        let top = climb_both::<H>(&origin.hash_key, chain, digit, C::TOP, &start);
         Chain {
-            ours,
-            theirs,
-            broken: find,
+            top: top.sides,
+            broken: top.find,
             hidden,
         }
     }
@@ -171,8 +136,8 @@ impl<H: TreeHash, C: Code> Subject<'_, H, C> {
         let mut hidden = None;
         for k in 0..C::COUNT {
             let chain = self.compare_chain(k as u16);
-            put_string(ours, k, &chain.ours);
-            put_string(theirs, k, &chain.theirs);
+            put_string(ours, k, &chain.top.ours);
+            put_string(theirs, k, &chain.top.theirs);
             broken = broken.or(chain.broken);
             hidden = hidden.or(chain.hidden);
         }

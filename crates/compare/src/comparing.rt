@@ -6,7 +6,6 @@ ghost use Rattle.compare.specs.Views.{traced_of};
 ghost use Rattle.tree.specs.Meaning.{hash_of, code_of};
 ghost use Rattle.tree.specs.Rebuilt.{rebuilt};
 
-use crate::pairs::fold_both;
 use crate::{Find, Subject, Verdict};
 use codes::Code;
 use hashes::TreeHash;
@@ -39,13 +38,10 @@ impl<H: TreeHash, C: Code> Subject<'_, H, C> {
     {
         let mut theirs = [0; 4096];
         let chains = self.compare_chains(work, &mut theirs);
-        let joiner = self.tree.origin.joiner::<H>();
-        let height = self.tree.origin.height as usize;
-        let levels = C::LEVELS as usize;
-        let leaf_node = fold_both(&joiner, height, levels, self.leaf, work, &mut theirs);
-        let root = self.climb_to_root(&leaf_node, work);
+        let leaf_node = self.fold_both(work, &mut theirs);
+        let root = self.climb_to_root(&leaf_node.sides, work);
         let verdict = choose(root.find.or(leaf_node.find), chains.broken, chains.hidden);
-        let root = root.theirs;
+        let root = root.sides.theirs;
         Comparison { root, verdict }
     }
 }

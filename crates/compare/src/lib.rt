@@ -11,6 +11,6 @@ mod subject;
 mod verdict;
 
 pub use comparing::Comparison;
-use sides::Sides;
+use sides::{Compared, Sides};
 pub use subject::Subject;
 pub use verdict::{Find, Verdict};

@@ -5,7 +5,8 @@ ghost use Rattle.strings.specs.Strings.{string_at};
 ghost use Rattle.tree.specs.Nodes.{join, node};
 
 use crate::reports::four_strings;
-use crate::{Find, Sides};
+use crate::{Compared, Find, Sides, Subject};
+use codes::Code;
 use hashes::TreeHash;
 use strings::{mask, put_string, same, string_at};
 use tree::nodes::Joiner;
@@ -24,11 +25,11 @@ pub(crate) fn join_both<H: TreeHash>(
     position: u16,
     ours: &Children,
     theirs: &Children,
-) -> Sides
+) -> Compared
     requires masked { 32 * level + 32 ≤ length joiner.now.masks.now }
     requires few { level < 16 }
-    ensures ours { result.ours ≡ join (H.TreeHash.pairs joiner.now.key.now) joiner.now.masks.now level ours.now.left ours.now.right }
-    ensures theirs { result.theirs ≡ join (H.TreeHash.pairs joiner.now.key.now) joiner.now.masks.now level theirs.now.left theirs.now.right }
+    ensures ours { result.sides.ours ≡ join (H.TreeHash.pairs joiner.now.key.now) joiner.now.masks.now level ours.now.left ours.now.right }
+    ensures theirs { result.sides.theirs ≡ join (H.TreeHash.pairs joiner.now.key.now) joiner.now.masks.now level theirs.now.left theirs.now.right }
     ensures find { result.find ≡ child_find (H.TreeHash.pairs joiner.now.key.now) joiner.now.masks.now level position ours.now.left ours.now.right theirs.now.left theirs.now.right }
 {
     let left_mask = string_at(joiner.masks, 2 * level);
@@ -40,20 +41,17 @@ pub(crate) fn join_both<H: TreeHash>(
     let our_parent = H::pair(joiner.key, &our_left, &our_right);
     let their_parent = H::pair(joiner.key, &their_left, &their_right);
     let alike = same(&our_left, &their_left) && same(&our_right, &their_right);
-    let find = if same(&our_parent, &their_parent) && !alike {
-        Some(Find {
-            first: level as u16,
-            second: position,
-            report: four_strings(&our_left, &our_right, &their_left, &their_right),
-        })
-    } else {
-        None
-    };
-    Sides {
+    let broken = same(&our_parent, &their_parent) && !alike;
+    let find = broken.then(|| Find {
+        first: level as u16,
+        second: position,
+        report: four_strings(&our_left, &our_right, &their_left, &their_right),
+    });
+    let sides = Sides {
         ours: our_parent,
         theirs: their_parent,
-        find,
-    }
+    };
+    Compared { sides, find }
 }
 
 // The two strings at place `p` of a row of pairs.
@@ -97,43 +95,33 @@ fn join_level<H: TreeHash>(
             &our_children,
             &their_children,
         );
-        put_string(ours, p, &above.ours);
-        put_string(theirs, p, &above.theirs);
+        put_string(ours, p, &above.sides.ours);
+        put_string(theirs, p, &above.sides.theirs);
         found = found.or(above.find);
     }
     found
 }
 
-// The node at level `height` over the first 2^levels strings of both rows, the one-time strings of leaf number `leaf`; and
-// the first node below it, or itself, that hides that its children differ. The rows are used up.
-pub(crate) fn fold_both<H: TreeHash>(
-    joiner: &Joiner<'_, H>,
-    height: usize,
-    levels: usize,
-    leaf: u16,
-    ours: &mut [u8],
-    theirs: &mut [u8],
-) -> Sides
-    requires masked { 32 * (height + levels) ≤ length joiner.now.masks.now }
-    requires few { levels ≤ 8 }
-    requires tall { height ≤ 8 }
-    requires there { leaf < 2 ^ height }
-    requires ours { 16 * 2 ^ levels ≤ length ours.old }
-    requires theirs { 16 * 2 ^ levels ≤ length theirs.old }
-    ensures ours { result.ours ≡ node (join (H.TreeHash.pairs joiner.now.key.now) joiner.now.masks.now) (string_at ours.old) height levels 0 }
-    ensures theirs { result.theirs ≡ node (join (H.TreeHash.pairs joiner.now.key.now) joiner.now.masks.now) (string_at theirs.old) height levels 0 }
-    ensures find { result.find ≡ first_from (depth_search (H.TreeHash.pairs joiner.now.key.now) joiner.now.masks.now height leaf levels (string_at ours.old) (string_at theirs.old)) 0 levels }
-{
-    let mut found = None;
-    for left in (0..levels).rev() {
-        let find = join_level(joiner, height + left, leaf << left, ours, theirs, 1 << left);
-        found = find.or(found);
-    }
-    let our_node = string_at(ours, 0);
-    let their_node = string_at(theirs, 0);
-    Sides {
-        ours: our_node,
-        theirs: their_node,
-        find: found,
+impl<H: TreeHash, C: Code> Subject<'_, H, C> {
+    // The node of the leaf on both sides, over two rows with its one-time strings; and the first node below it, or itself,
+    // that hides that its children differ. The rows are used up.
+    pub(crate) fn fold_both(&self, ours: &mut [u8; 4096], theirs: &mut [u8; 4096]) -> Compared
+        ensures ours { result.sides.ours ≡ node (join (H.TreeHash.pairs self.now.tree.origin.now.hash_key) self.now.tree.origin.now.masks) (string_at ours.old) self.now.tree.origin.now.height C.Code.LEVELS 0 }
+        ensures theirs { result.sides.theirs ≡ node (join (H.TreeHash.pairs self.now.tree.origin.now.hash_key) self.now.tree.origin.now.masks) (string_at theirs.old) self.now.tree.origin.now.height C.Code.LEVELS 0 }
+        ensures find { result.find ≡ first_from (depth_search (H.TreeHash.pairs self.now.tree.origin.now.hash_key) self.now.tree.origin.now.masks self.now.tree.origin.now.height self.now.leaf C.Code.LEVELS (string_at ours.old) (string_at theirs.old)) 0 C.Code.LEVELS }
+    {
+        let joiner = self.tree.origin.joiner::<H>();
+        let height = self.tree.origin.height as usize;
+        let mut found = None;
+        for left in (0..C::LEVELS as usize).rev() {
+            let first = self.leaf << left;
+            let find = join_level(&joiner, height + left, first, ours, theirs, 1 << left);
+            found = find.or(found);
+        }
+        let sides = Sides {
+            ours: string_at(ours, 0),
+            theirs: string_at(theirs, 0),
+        };
+        Compared { sides, find: found }
     }
 }

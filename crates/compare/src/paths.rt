@@ -6,7 +6,7 @@ ghost use Rattle.compare.specs.Views.{traced_of};
 ghost use Rattle.tree.specs.Meaning.{hash_of, code_of};
 
 use crate::pairs::{Children, join_both};
-use crate::{Sides, Subject};
+use crate::{Compared, Sides, Subject};
 use codes::Code;
 use growth::sibling;
 use hashes::TreeHash;
@@ -33,56 +33,43 @@ fn children_of(position: u16, at: &[u8; 16], sibling: &[u8; 16]) -> Children
 impl<H: TreeHash, C: Code> Subject<'_, H, C> {
     // One level up on both sides: the parent at `level` of the node at `position` on the way up from the leaf, and of its
     // sibling. The work buffer is used up.
-    fn climb_one(
-        &self,
-        level: usize,
-        position: u16,
-        ours: &[u8; 16],
-        theirs: &[u8; 16],
-        work: &mut [u8; 4096],
-    ) -> Sides
+    fn climb_one(&self, level: usize, position: u16, at: &Sides, work: &mut [u8; 4096]) -> Compared
         requires under { level < self.now.tree.origin.now.height }
         requires place { position ≡ self.now.leaf / 2 ^ (self.now.tree.origin.now.height - (level + 1)) }
-        requires ours { ours.now ≡ our_node (hash_of H.ChainHash H.TreeHash.own) (code_of C.Code) (traced_of self.now) (level + 1) position }
-        requires theirs { theirs.now ≡ their_node (hash_of H.ChainHash H.TreeHash.own) (code_of C.Code) (traced_of self.now) (level + 1) position }
-        ensures ours { result.ours ≡ our_node (hash_of H.ChainHash H.TreeHash.own) (code_of C.Code) (traced_of self.now) level (position / 2) }
-        ensures theirs { result.theirs ≡ their_node (hash_of H.ChainHash H.TreeHash.own) (code_of C.Code) (traced_of self.now) level (position / 2) }
+        requires ours { at.now.ours ≡ our_node (hash_of H.ChainHash H.TreeHash.own) (code_of C.Code) (traced_of self.now) (level + 1) position }
+        requires theirs { at.now.theirs ≡ their_node (hash_of H.ChainHash H.TreeHash.own) (code_of C.Code) (traced_of self.now) (level + 1) position }
+        ensures ours { result.sides.ours ≡ our_node (hash_of H.ChainHash H.TreeHash.own) (code_of C.Code) (traced_of self.now) level (position / 2) }
+        ensures theirs { result.sides.theirs ≡ their_node (hash_of H.ChainHash H.TreeHash.own) (code_of C.Code) (traced_of self.now) level (position / 2) }
         ensures find { result.find ≡ node_find_at (hash_of H.ChainHash H.TreeHash.own) (code_of C.Code) (traced_of self.now) level (position / 2) }
     {
         let our_sibling = self.tree.grow_node(level + 1, sibling(position), work);
         let above = self.tree.origin.height as usize - level - 1;
         let their_sibling = string_at(self.row, C::COUNT + above);
-        let our_children = children_of(position, ours, &our_sibling);
-        let their_children = children_of(position, theirs, &their_sibling);
+        let our_children = children_of(position, &at.ours, &our_sibling);
+        let their_children = children_of(position, &at.theirs, &their_sibling);
         let joiner = self.tree.origin.joiner::<H>();
         join_both(&joiner, level, position / 2, &our_children, &their_children)
     }
 
     // The root on both sides, from the leaf's node on both, and the first node on the way that hides that its children
     // differ. The work buffer is used up.
-    pub(crate) fn climb_to_root(&self, leaf_node: &Sides, work: &mut [u8; 4096]) -> Sides
+    pub(crate) fn climb_to_root(&self, leaf_node: &Sides, work: &mut [u8; 4096]) -> Compared
         requires ours { leaf_node.now.ours ≡ our_node (hash_of H.ChainHash H.TreeHash.own) (code_of C.Code) (traced_of self.now) self.now.tree.origin.now.height self.now.leaf }
         requires theirs { leaf_node.now.theirs ≡ their_node (hash_of H.ChainHash H.TreeHash.own) (code_of C.Code) (traced_of self.now) self.now.tree.origin.now.height self.now.leaf }
-        ensures ours { result.ours ≡ our_node (hash_of H.ChainHash H.TreeHash.own) (code_of C.Code) (traced_of self.now) 0 0 }
-        ensures theirs { result.theirs ≡ their_node (hash_of H.ChainHash H.TreeHash.own) (code_of C.Code) (traced_of self.now) 0 0 }
+        ensures ours { result.sides.ours ≡ our_node (hash_of H.ChainHash H.TreeHash.own) (code_of C.Code) (traced_of self.now) 0 0 }
+        ensures theirs { result.sides.theirs ≡ their_node (hash_of H.ChainHash H.TreeHash.own) (code_of C.Code) (traced_of self.now) 0 0 }
         ensures find { result.find ≡ first_from (level_search (hash_of H.ChainHash H.TreeHash.own) (code_of C.Code) (traced_of self.now)) 0 self.now.tree.origin.now.height }
     {
         let height = self.tree.origin.height as usize;
-        let mut ours = leaf_node.ours;
-        let mut theirs = leaf_node.theirs;
-        let mut found = None;
+        let mut sides = *leaf_node;
+        let mut find = None;
         let mut position = self.leaf;
-        for e in 0..height {
-            let above = self.climb_one(height - e - 1, position, &ours, &theirs, work);
-            ours = above.ours;
-            theirs = above.theirs;
-            found = above.find.or(found);
+        for level in (0..height).rev() {
+            let above = self.climb_one(level, position, &sides, work);
+            sides = above.sides;
+            find = above.find.or(find);
             position /= 2;
         }
-        Sides {
-            ours,
-            theirs,
-            find: found,
-        }
+        Compared { sides, find }
     }
 }

@@ -81,13 +81,9 @@ module _ (parent : ℕ → List ℕ → List ℕ → List ℕ) (bottom : ℕ →
       ∙ ap (λ e. node parent bottom a e k) down
 
 -- one turn of the way up
-pub climb-turn : (parent : ℕ → List ℕ → List ℕ → List ℕ) (sibling : ℕ → List ℕ) (h e b : ℕ) (s t : List ℕ) → e < h → t ≡ above parent (h - e - 1) b s (sibling (h - e)) → climb parent sibling (h - (e + 1)) (b / 2) t ≡ climb parent sibling (h - e) b s
-climb-turn parent sibling h e b s t lt is =
-    let a = h - e - 1 in
-    let up : a + 1 ≡ h - e = omega arith in
-    let low : h - (e + 1) ≡ a = omega arith in
-    ap (λ c. climb parent sibling c (b / 2) t) low
-    ∙ ap (climb parent sibling a (b / 2)) (is ∙ ap (λ c. above parent a b s (sibling c)) (sym up))
+pub climb-turn : (parent : ℕ → List ℕ → List ℕ → List ℕ) (sibling : ℕ → List ℕ) (a n b : ℕ) (s t : List ℕ) → a + 1 ≡ n → t ≡ above parent a b s (sibling n) → climb parent sibling a (b / 2) t ≡ climb parent sibling n b s
+climb-turn parent sibling a n b s t up is =
+    ap (climb parent sibling a (b / 2)) (is ∙ ap (λ c. above parent a b s (sibling c)) (sym up))
     ∙ sym (climb-more parent sibling a b s)
     ∙ ap (λ c. climb parent sibling c b s) up
 

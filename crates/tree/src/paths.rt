@@ -42,9 +42,9 @@ impl<H: TreeHash> Joiner<'_, H> {
     {
         let mut at = *start;
         let mut position = leaf;
-        for e in 0..height {
-            let sibling = string_at(row, first + e);
-            at = self.parent_above(height - e - 1, position, &at, &sibling);
+        for level in (0..height).rev() {
+            let sibling = string_at(row, first + (height - 1 - level));
+            at = self.parent_above(level, position, &at, &sibling);
             position /= 2;
         }
         at

@@ -11,8 +11,8 @@ pub loop-e-init : goal.loop-e-init
 loop-e-init g c =
     let step = g.H.ChainHash.steps c.args.key.now in
     let none : 0 ≡ c.args.from - c.args.from = omega arith in (
-      sym (raise-none step _) ∙ ap (λ n. raise step n c.args.ours.now) none,
-      sym (raise-none step _) ∙ ap (λ n. raise step n c.args.theirs.now) none,
+      sym (raise-none step _) ∙ ap (λ n. raise step n c.args.start.now.ours) none,
+      sym (raise-none step _) ∙ ap (λ n. raise step n c.args.start.now.theirs) none,
       sym (last_none _ _) ∙ ap (last_from _ c.args.from) none,
     )
 
@@ -21,8 +21,8 @@ loop-e-preserved g c =
     let step = g.H.ChainHash.steps c.args.key.now in
     let from = c.args.from in
     let e = c.loop-e.e in
-    let ours = c.args.ours.now in
-    let theirs = c.args.theirs.now in
+    let ours = c.args.start.now.ours in
+    let theirs = c.args.start.now.theirs in
     let at : ℕ → Option Find = λ n. step_find step c.args.chain n (raise step (n - from) ours) (raise step (n - from) theirs) in
     let inv = c.loop-e.invariant in
     let low = c.loop-e.auto.e in
@@ -30,7 +30,7 @@ loop-e-preserved g c =
     let here : e ≡ from + (e - from) = omega arith in (
       c.step_both-above.ensures.ours ∙ ap step inv.0 ∙ raise-more step (e - from) ours ∙ ap (λ n. raise step n ours) more,
       c.step_both-above.ensures.theirs ∙ ap step inv.1 ∙ raise-more step (e - from) theirs ∙ ap (λ n. raise step n theirs) more,
-      c.or-found.ensures
+      c.or-find.ensures
           ∙ (λ i. option_or ((c.step_both-above.ensures.find ∙ (λ j. step_find step c.args.chain e (inv.0 j) (inv.1 j)) ∙ ap at here) i) (inv.2 i))
           ∙ sym (last_more at from (e - from))
           ∙ ap (last_from at from) more,

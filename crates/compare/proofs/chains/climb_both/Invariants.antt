@@ -5,6 +5,6 @@ use Rattle.compare.proofs.chains.climb_both.Given as goal
 
 abbrev pub invariant-loop-e : goal.invariant-loop-e
 invariant-loop-e g l =
-    (l.our_string ≡ raise (g.H.ChainHash.steps l.key) (l.e - l.from) l.ours)
-    × (l.their_string ≡ raise (g.H.ChainHash.steps l.key) (l.e - l.from) l.theirs)
-    × (l.found ≡ last_from (λ e. step_find (g.H.ChainHash.steps l.key) l.chain e (raise (g.H.ChainHash.steps l.key) (e - l.from) l.ours) (raise (g.H.ChainHash.steps l.key) (e - l.from) l.theirs)) l.from (l.e - l.from))
+    (l.sides.ours ≡ raise (g.H.ChainHash.steps l.key) (l.e - l.from) l.start.ours)
+    × (l.sides.theirs ≡ raise (g.H.ChainHash.steps l.key) (l.e - l.from) l.start.theirs)
+    × (l.find ≡ last_from (λ e. step_find (g.H.ChainHash.steps l.key) l.chain e (raise (g.H.ChainHash.steps l.key) (e - l.from) l.start.ours) (raise (g.H.ChainHash.steps l.key) (e - l.from) l.start.theirs)) l.from (l.e - l.from))

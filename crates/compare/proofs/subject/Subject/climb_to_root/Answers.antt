@@ -10,39 +10,56 @@ use Rattle.compare.proofs.Beside.{level-one}
 use Rattle.compare.proofs.Firsts.{first-none, first-front}
 use Rattle.compare.proofs.subject.Subject.climb_to_root.Goals as goal
 
-pub loop-e-init : goal.loop-e-init
-loop-e-init g c =
+pub loop-level-init : goal.loop-level-init
+loop-level-init g c =
+    let t = traced_of c.args.self.now in
+    let h = t.origin.height in
+    let none : 0 ≡ h - h = omega arith in (
+      omega arith,
+      (let whole : t.leaf ≡ t.leaf / 2 ^ 0 = omega arith in whole) ∙ ap (λ n. t.leaf / 2 ^ n) none,
+      c.requires.ours,
+      c.requires.theirs,
+      sym (first-none _ h) ∙ ap (first_from _ h) none,
+    )
+
+pub climb_one-above-requires : goal.climb_one-above-requires
+climb_one-above-requires g c =
     let hash = hash_of g.H.ChainHash g.H.TreeHash in
     let code = code_of g.C.Code in
     let t = traced_of c.args.self.now in
-    let top : t.origin.height ≡ t.origin.height - 0 = omega arith in (
-      omega arith,
-      c.requires.ours ∙ ap (λ a. our_node hash code t a t.leaf) top,
-      c.requires.theirs ∙ ap (λ a. their_node hash code t a t.leaf) top,
-      sym (first-none (level_search hash code t) (t.origin.height - 0)),
-    )
+    let level = c.loop-level.level in
+    let some = c.loop-level-test.true in
+    let inv = c.loop-level.invariant in
+    let up : level ≡ level - 1 + 1 = omega arith in
+    record {
+      under = omega (arith, inv.0);
+      place = inv.1 ∙ ap (λ a. t.leaf / 2 ^ (t.origin.height - a)) up;
+      ours = inv.2 ∙ ap (λ a. our_node hash code t a c.loop-level.position) up;
+      theirs = inv.3 ∙ ap (λ a. their_node hash code t a c.loop-level.position) up;
+    }
 
-pub loop-e-preserved : goal.loop-e-preserved
-loop-e-preserved g c =
+pub loop-level-preserved : goal.loop-level-preserved
+loop-level-preserved g c =
     let hash = hash_of g.H.ChainHash g.H.TreeHash in
     let code = code_of g.C.Code in
     let t = traced_of c.args.self.now in
     let h = t.origin.height in
-    let e = c.loop-e.e in
-    let b = c.loop-e.position / 2 in
-    let more = c.loop-e-test.true in
-    let up : h - e - 1 ≡ h - (e + 1) = omega arith in
-    let below : h - e ≡ h - (e + 1) + 1 = omega arith in
-    let far : e + 1 ≡ h - (h - (e + 1)) = omega arith in
-    let inv = c.loop-e.invariant in
-    let half : b ≡ t.leaf / 2 ^ (e + 1) = ap (λ n. n / 2) inv.0 ∙ shr-shr t.leaf e 1 in
+    let level = c.loop-level.level in
+    let a = level - 1 in
+    let some = c.loop-level-test.true in
+    let inv = c.loop-level.invariant in
+    let up : level ≡ a + 1 = omega arith in
+    let far : h - level + 1 ≡ h - a = omega (arith, inv.0) in
+    let half : c.loop-level.position / 2 ≡ t.leaf / 2 ^ (h - a) = ap (λ n. n / 2) inv.1 ∙ shr-shr t.leaf (h - level) 1 ∙ ap (λ n. t.leaf / 2 ^ n) far in
     let above = c.climb_one-above.ensures in (
+      omega (arith, inv.0),
       half,
-      above.ours ∙ ap (λ a. our_node hash code t a b) up,
-      above.theirs ∙ ap (λ a. their_node hash code t a b) up,
-      c.or-found.ensures
-          ∙ (λ i. option_or ((above.find ∙ (λ j. node_find_at hash code t (up j) (half j)) ∙ ap (λ n. node_find_at hash code t (h - (e + 1)) (t.leaf / 2 ^ n)) far ∙ level-one hash code t (h - (e + 1)) (omega arith)) i) ((inv.3 ∙ ap (λ a. first_from (level_search hash code t) a e) below) i))
-          ∙ sym (first-front (level_search hash code t) (h - (e + 1)) e),
+      above.ours,
+      above.theirs,
+      c.or-find.ensures
+          ∙ (λ i. option_or ((above.find ∙ ap (node_find_at hash code t a) half ∙ level-one hash code t a (omega (arith, inv.0))) i) ((inv.4 ∙ ap (λ b. first_from (level_search hash code t) b (h - level)) up) i))
+          ∙ sym (first-front (level_search hash code t) a (h - level))
+          ∙ ap (first_from (level_search hash code t) a) far,
     )
 
 pub returns : goal.returns
@@ -51,12 +68,12 @@ returns g c =
     let code = code_of g.C.Code in
     let t = traced_of c.args.self.now in
     let h = t.origin.height in
-    let all : c.loop-e.e ≡ h = omega (arith, c.loop-e-test.false, c.loop-e.auto.e-end) in
-    let root : h - c.loop-e.e ≡ 0 = omega arith in
-    let inv = c.loop-e.invariant in
-    let first : c.loop-e.position ≡ 0 = inv.0 ∙ ap (λ n. t.leaf / 2 ^ n) all ∙ div-eq_of_lt c.args.self.now.there in
+    let root : c.loop-level.level ≡ 0 = omega arith in
+    let all : h - c.loop-level.level ≡ h = omega (arith, root) in
+    let inv = c.loop-level.invariant in
+    let first : c.loop-level.position ≡ 0 = inv.1 ∙ ap (λ n. t.leaf / 2 ^ n) all ∙ div-eq_of_lt c.args.self.now.there in
     record {
-      ours = inv.1 ∙ (λ i. our_node hash code t (root i) (first i));
-      theirs = inv.2 ∙ (λ i. their_node hash code t (root i) (first i));
-      find = inv.3 ∙ (λ i. first_from (level_search hash code t) (root i) (all i));
+      ours = inv.2 ∙ (λ i. our_node hash code t (root i) (first i));
+      theirs = inv.3 ∙ (λ i. their_node hash code t (root i) (first i));
+      find = inv.4 ∙ (λ i. first_from (level_search hash code t) (root i) (all i));
     }

@@ -1,11 +1,11 @@
-use Rattle.std.proofs.Common.{◌≡◌, ℕ, ◌+◌, ◌-◌, ◌*◌, ◌^◌, ◌<◌, List, sym, ap, ◌∙◌, subst, arith, pow_mono}
+use Rattle.std.proofs.Common.{◌≡◌, ℕ, ◌+◌, ◌-◌, ◌*◌, ◌^◌, ◌<◌, List, sym, ◌∙◌, subst, arith, pow_mono}
 use Rattle.std.specs.Option.{option_or}
 use Rattle.strings.specs.Strings.{string_at}
 use Rattle.tree.specs.Meaning.{hash_of, code_of}
-use Rattle.tree.specs.Nodes.{join, node}
+use Rattle.tree.specs.Nodes.{node}
 use Rattle.growth.specs.Grown.{parent_at}
 use Rattle.compare.specs.Found.{Found}
-use Rattle.compare.specs.Search.{first_from, depth_search, chosen, found}
+use Rattle.compare.specs.Search.{chosen, found}
 use Rattle.compare.specs.Sides.{our_node, their_node}
 use Rattle.compare.specs.Views.{traced_of}
 use Rattle.compare.proofs.Leaves.{our-node, their-node, nodes-all}
@@ -20,24 +20,21 @@ climb_to_root-root-requires g c =
     let t = traced_of c.args.self.now in
     let h = t.origin.height in
     let most = pow_mono g.met.C.Code.level_range.1 in
-    let by = c.joiner-joiner.ensures in
     let ours : ℕ → List ℕ = string_at c.compare_chains-chains.new.ours in
     let theirs : ℕ → List ℕ = string_at c.compare_chains-chains.new.theirs in
     let our-row = λ (k : ℕ) (lt : k < 2 ^ code.levels). c.compare_chains-chains.ensures.ours k (omega arith) in
     let their-row = λ (k : ℕ) (lt : k < 2 ^ code.levels). c.compare_chains-chains.ensures.theirs k (omega arith) in
     let top : h ≡ h + 0 = omega arith in
-    let deep : c.LEVELS-levels.result ≡ code.levels - 0 = c.LEVELS-levels.ensures ∙ omega arith in
+    let deep : code.levels ≡ code.levels - 0 = omega arith in
     let here : t.leaf * 2 ^ 0 + 0 ≡ t.leaf = omega arith in
     record {
       ours =
           c.fold_both-leaf_node.ensures.ours
-          ∙ (λ i. node (join (hash.pair (by.key i)) (by.masks i)) ours h c.LEVELS-levels.result 0)
           ∙ (λ i. node (parent_at hash t.origin) ours (top i) (deep i) 0)
           ∙ our-node hash code t ours theirs our-row their-row 0 0 (omega arith) (omega arith)
           ∙ (λ i. our_node hash code t (sym top i) (here i));
       theirs =
           c.fold_both-leaf_node.ensures.theirs
-          ∙ (λ i. node (join (hash.pair (by.key i)) (by.masks i)) theirs h c.LEVELS-levels.result 0)
           ∙ (λ i. node (parent_at hash t.origin) theirs (top i) (deep i) 0)
           ∙ their-node hash code t ours theirs our-row their-row 0 0 (omega arith) (omega arith)
           ∙ (λ i. their_node hash code t (sym top i) (here i));
@@ -50,15 +47,13 @@ returns g c =
     let code = code_of g.C.Code in
     let t = traced_of c.args.self.now in
     let most = pow_mono g.met.C.Code.level_range.1 in
-    let by = c.joiner-joiner.ensures in
     let ours : ℕ → List ℕ = string_at c.compare_chains-chains.new.ours in
     let theirs : ℕ → List ℕ = string_at c.compare_chains-chains.new.theirs in
     let our-row = λ (k : ℕ) (lt : k < 2 ^ code.levels). c.compare_chains-chains.ensures.ours k (omega arith) in
     let their-row = λ (k : ℕ) (lt : k < 2 ^ code.levels). c.compare_chains-chains.ensures.theirs k (omega arith) in
-    let depth = λ (n : ℕ). first_from (depth_search (hash.pair t.origin.hash_key) t.origin.masks t.origin.height t.leaf n ours theirs) 0 n in
     let nodes =
     c.or.ensures
-    ∙ (λ i. option_or (c.climb_to_root-root.ensures.find i) ((c.fold_both-leaf_node.ensures.find ∙ (λ j. first_from (depth_search (hash.pair (by.key j)) (by.masks j) t.origin.height t.leaf c.LEVELS-levels.result ours theirs) 0 c.LEVELS-levels.result) ∙ ap depth c.LEVELS-levels.ensures) i))
+    ∙ (λ i. option_or (c.climb_to_root-root.ensures.find i) (c.fold_both-leaf_node.ensures.find i))
     ∙ nodes-all hash code t ours theirs our-row their-row in
     let is : c.choose-verdict.result ≡ found hash code t = c.choose-verdict.ensures ∙ (λ i. chosen (nodes i) (c.compare_chains-chains.ensures.broken i) (c.compare_chains-chains.ensures.hidden i)) in
     record {

@@ -24,10 +24,10 @@ returns g c =
     let rises : (e : ℕ) → raise step e (our_chain hash code t k d) ≡ our_chain hash code t k (e + d) = λ e. raise-add step e d (secret hash t.origin t.leaf k) in
     let end : (code.top - d) + d ≡ code.top = omega arith in
     record {
-      ours = c.climb_both-find.ensures.ours ∙ (λ i. raise step (top i - is i) (ours i)) ∙ rises (code.top - d) ∙ ap (our_chain hash code t k) end;
-      theirs = c.climb_both-find.ensures.theirs ∙ (λ i. raise step (top i - is i) (c.string_at-theirs.ensures i));
+      ours = c.climb_both-top.ensures.ours ∙ (λ i. raise step (top i - is i) (ours i)) ∙ rises (code.top - d) ∙ ap (our_chain hash code t k) end;
+      theirs = c.climb_both-top.ensures.theirs ∙ (λ i. raise step (top i - is i) (c.string_at-theirs.ensures i));
       broken =
-          c.climb_both-find.ensures.find
+          c.climb_both-top.ensures.find
           ∙ (λ i. last_from (λ e. step_find step k e (raise step (e - is i) (ours i)) (raise step (e - is i) (c.string_at-theirs.ensures i))) (is i) (top i - is i))
           ∙ last-same _ (chain_find_at hash code t k) d (code.top - d)
           (λ e below.
