@@ -1,5 +1,5 @@
 ghost use Rattle.std.specs.Prelude.{◌≡◌, ◌+◌, ◌-◌, ◌*◌, ◌/◌, ◌^◌, ◌<◌};
-ghost use Rattle.codes.specs.Codes.{Width, checksum, cut, winternitz};
+ghost use Rattle.codes.specs.Codes.{checksum, cut, winternitz};
 ghost use Rattle.codes.specs.Laws.{winternitz-within, winternitz-past, winternitz-apart};
 
 use super::bits::read_bits;
@@ -23,11 +23,13 @@ impl<W: DigitWidth> Winternitz<W> {
     fn checksum(stamp: &[u8; 16]) -> u16
         ensures { result ≡ checksum W.WIDTH (cut W.WIDTH stamp.now) }
     {
-        let mut sum = 0;
-        for j in 0..128 / W::WIDTH {
-            sum += (1 << W::WIDTH) - u16::from(read_bits(stamp, W::WIDTH, j));
-        }
-        sum
+        (0..128 / W::WIDTH)
+            .map(
+                |j: usize| -> u16
+                    requires { j < 128 / W.WIDTH }
+                { (1 << W::WIDTH) - u16::from(read_bits(stamp, W::WIDTH, j)) },
+            )
+            .sum()
     }
 }
 
