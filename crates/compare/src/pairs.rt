@@ -8,15 +8,8 @@ use crate::reports::four_strings;
 use crate::{Compared, Find, Sides, Subject};
 use codes::Code;
 use hashes::TreeHash;
-use strings::{mask, put_string, same, string_at};
-use tree::nodes::Joiner;
-
-// Two children of one parent.
-#[derive(Clone, Copy)]
-pub(crate) struct Children {
-    pub left: [u8; 16],
-    pub right: [u8; 16],
-}
+use strings::{put_string, same, string_at};
+use tree::nodes::{Children, Joiner};
 
 // The parent at a level of two children on both sides, and whether it hides that they differ.
 pub(crate) fn join_both<H: TreeHash>(
@@ -32,25 +25,19 @@ pub(crate) fn join_both<H: TreeHash>(
     ensures theirs { result.sides.theirs ≡ join (H.TreeHash.pairs joiner.now.key.now) joiner.now.masks.now level theirs.now.left theirs.now.right }
     ensures find { result.find ≡ child_find (H.TreeHash.pairs joiner.now.key.now) joiner.now.masks.now level position ours.now.left ours.now.right theirs.now.left theirs.now.right }
 {
-    let left_mask = string_at(joiner.masks, 2 * level);
-    let right_mask = string_at(joiner.masks, 2 * level + 1);
-    let our_left = mask(&ours.left, &left_mask);
-    let our_right = mask(&ours.right, &right_mask);
-    let their_left = mask(&theirs.left, &left_mask);
-    let their_right = mask(&theirs.right, &right_mask);
-    let our_parent = H::pair(joiner.key, &our_left, &our_right);
-    let their_parent = H::pair(joiner.key, &their_left, &their_right);
-    let alike = same(&our_left, &their_left) && same(&our_right, &their_right);
-    let broken = same(&our_parent, &their_parent) && !alike;
+    let ours = joiner.masked(level, ours);
+    let theirs = joiner.masked(level, theirs);
+    let sides = Sides {
+        ours: H::pair(joiner.key, &ours.left, &ours.right),
+        theirs: H::pair(joiner.key, &theirs.left, &theirs.right),
+    };
+    let alike = same(&ours.left, &theirs.left) && same(&ours.right, &theirs.right);
+    let broken = same(&sides.ours, &sides.theirs) && !alike;
     let find = broken.then(|| Find {
         first: level as u16,
         second: position,
-        report: four_strings(&our_left, &our_right, &their_left, &their_right),
+        report: four_strings(&ours.left, &ours.right, &theirs.left, &theirs.right),
     });
-    let sides = Sides {
-        ours: our_parent,
-        theirs: their_parent,
-    };
     Compared { sides, find }
 }
 

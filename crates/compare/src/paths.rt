@@ -5,30 +5,13 @@ ghost use Rattle.compare.specs.Sides.{our_node, their_node};
 ghost use Rattle.compare.specs.Views.{traced_of};
 ghost use Rattle.tree.specs.Meaning.{hash_of, code_of};
 
-use crate::pairs::{Children, join_both};
+use crate::pairs::join_both;
 use crate::{Compared, Sides, Subject};
 use codes::Code;
 use growth::sibling;
 use hashes::TreeHash;
 use strings::string_at;
-
-// A node at a position and its sibling, as children of their parent.
-fn children_of(position: u16, at: &[u8; 16], sibling: &[u8; 16]) -> Children
-    ensures left { result.left ≡ (if nat_eq (position % 2) 0 then at.now else sibling.now) }
-    ensures right { result.right ≡ (if nat_eq (position % 2) 0 then sibling.now else at.now) }
-{
-    if position % 2 == 0 {
-        Children {
-            left: *at,
-            right: *sibling,
-        }
-    } else {
-        Children {
-            left: *sibling,
-            right: *at,
-        }
-    }
-}
+use tree::nodes::Children;
 
 impl<H: TreeHash, C: Code> Subject<'_, H, C> {
     // One level up on both sides: the parent at `level` of the node at `position` on the way up from the leaf, and of its
@@ -45,8 +28,8 @@ impl<H: TreeHash, C: Code> Subject<'_, H, C> {
         let our_sibling = self.tree.grow_node(level + 1, sibling(position), work);
         let above = self.tree.origin.height as usize - level - 1;
         let their_sibling = string_at(self.row, C::COUNT + above);
-        let our_children = children_of(position, &at.ours, &our_sibling);
-        let their_children = children_of(position, &at.theirs, &their_sibling);
+        let our_children = Children::turned(position, &at.ours, &our_sibling);
+        let their_children = Children::turned(position, &at.theirs, &their_sibling);
         let joiner = self.tree.origin.joiner::<H>();
         join_both(&joiner, level, position / 2, &our_children, &their_children)
     }

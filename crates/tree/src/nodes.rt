@@ -1,11 +1,33 @@
 // Nodes: two masked children make a parent, and a row of strings folds to its root.
-ghost use Rattle.std.specs.Prelude.{◌≡◌, ℕ, ◌+◌, ◌*◌, ◌^◌, ◌<◌, ◌≤◌, length};
-ghost use Rattle.strings.specs.Strings.{string_at};
+ghost use Rattle.std.specs.Prelude.{◌≡◌, ℕ, ◌+◌, ◌*◌, ◌%◌, ◌^◌, ◌<◌, ◌≤◌, if◌then◌else◌, length, nat_eq};
+ghost use Rattle.strings.specs.Strings.{xor, string_at};
 ghost use Rattle.tree.specs.Nodes.{join, node};
 
 use hashes::TreeHash;
 use std::marker::PhantomData;
 use strings::{mask, put_string, string_at};
+
+// Two children of one parent.
+#[derive(Clone, Copy)]
+pub struct Children {
+    pub left: [u8; 16],
+    pub right: [u8; 16],
+}
+
+impl Children {
+    // A node at a position and its sibling, as children of their parent.
+    pub fn turned(position: u16, at: &[u8; 16], sibling: &[u8; 16]) -> Children
+        ensures left { result.left ≡ (if nat_eq (position % 2) 0 then at.now else sibling.now) }
+        ensures right { result.right ≡ (if nat_eq (position % 2) 0 then sibling.now else at.now) }
+    {
+        let (left, right) = if position % 2 == 0 {
+            (*at, *sibling)
+        } else {
+            (*sibling, *at)
+        };
+        Children { left, right }
+    }
+}
 
 // What nodes are joined by: a tree hash, its key, and the left and right mask of each level.
 #[derive(Drop)]
@@ -17,14 +39,28 @@ pub struct Joiner<'a, H> {
 }
 
 impl<H: TreeHash> Joiner<'_, H> {
+    // Two children under the masks of a level.
+    pub fn masked(&self, level: usize, children: &Children) -> Children
+        requires { 32 * level + 32 ≤ length self.now.masks.now }
+        ensures left { result.left ≡ xor children.now.left (string_at self.now.masks.now (2 * level)) }
+        ensures right { result.right ≡ xor children.now.right (string_at self.now.masks.now (2 * level + 1)) }
+    {
+        let left = mask(&children.left, &string_at(self.masks, 2 * level));
+        let right = mask(&children.right, &string_at(self.masks, 2 * level + 1));
+        Children { left, right }
+    }
+
     // The parent at `level` of two children.
     pub fn parent(&self, level: usize, left: &[u8; 16], right: &[u8; 16]) -> [u8; 16]
         requires { 32 * level + 32 ≤ length self.now.masks.now }
         ensures { result ≡ join (H.TreeHash.pairs self.now.key.now) self.now.masks.now level left.now right.now }
     {
-        let left = mask(left, &string_at(self.masks, 2 * level));
-        let right = mask(right, &string_at(self.masks, 2 * level + 1));
-        H::pair(self.key, &left, &right)
+        let children = Children {
+            left: *left,
+            right: *right,
+        };
+        let masked = self.masked(level, &children);
+        H::pair(self.key, &masked.left, &masked.right)
     }
 
     // Writes the `n` parents at `level` of the first 2n strings of `row` over its first n strings. Nothing is promised

@@ -3,7 +3,7 @@ ghost use Rattle.std.specs.Prelude.{◌≡◌, ℕ, ◌+◌, ◌-◌, ◌*◌, �
 ghost use Rattle.strings.specs.Strings.{string_at};
 ghost use Rattle.tree.specs.Nodes.{join, above, climb};
 
-use crate::nodes::Joiner;
+use crate::nodes::{Children, Joiner};
 use hashes::TreeHash;
 use strings::string_at;
 
@@ -19,11 +19,8 @@ impl<H: TreeHash> Joiner<'_, H> {
         requires { 32 * level + 32 ≤ length self.now.masks.now }
         ensures { result ≡ above (join (H.TreeHash.pairs self.now.key.now) self.now.masks.now) level position at.now sibling.now }
     {
-        if position % 2 == 0 {
-            self.parent(level, at, sibling)
-        } else {
-            self.parent(level, sibling, at)
-        }
+        let children = Children::turned(position, at, sibling);
+        self.parent(level, &children.left, &children.right)
     }
 
     // The root over leaf number `leaf`, whose node is `start`: strings `first` to `first + height - 1` of `row` are the

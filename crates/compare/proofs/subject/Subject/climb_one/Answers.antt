@@ -44,17 +44,17 @@ returns g c =
     let level : h - e ≡ a + 1 = omega arith in
     let their-beside : c.string_at-their_sibling.result ≡ theirs (sibling_of position) =
     c.string_at-their_sibling.ensures ∙ ap (string_at t.row) place ∙ sym (their-sibling hash code t e (omega arith)) ∙ (λ i. their_node hash code t (level i) (sibling_of (sym c.requires.place i))) in
-    let l = c.children_of-our_children.ensures.left ∙ left-child ours position _ _ c.requires.ours our-beside in
-    let r = c.children_of-our_children.ensures.right ∙ right_child ours position _ _ c.requires.ours our-beside in
-    let l' = c.children_of-their_children.ensures.left ∙ left-child theirs position _ _ c.requires.theirs their-beside in
-    let r' = c.children_of-their_children.ensures.right ∙ right_child theirs position _ _ c.requires.theirs their-beside in
+    let l = c.turned-our_children.ensures.left ∙ left-child ours position _ _ c.requires.ours our-beside in
+    let r = c.turned-our_children.ensures.right ∙ right_child ours position _ _ c.requires.ours our-beside in
+    let l' = c.turned-their_children.ensures.left ∙ left-child theirs position _ _ c.requires.theirs their-beside in
+    let r' = c.turned-their_children.ensures.right ∙ right_child theirs position _ _ c.requires.theirs their-beside in
     let half : b ≡ t.leaf / 2 ^ (h - a) = ap (λ n. n / 2) c.requires.place ∙ shr-shr t.leaf (h - (a + 1)) 1 ∙ ap (λ n. t.leaf / 2 ^ n) (omega arith) in
     let near : b / 2 ^ (a - h) ≡ t.leaf / 2 ^ (h - a) = shr-none b (a - h) (omega arith) ∙ half in
     let by = c.joiner-joiner.ensures in
-    let ol = c.children_of-our_children.result.left in
-    let or = c.children_of-our_children.result.right in
-    let tl = c.children_of-their_children.result.left in
-    let tr = c.children_of-their_children.result.right in
+    let ol = c.turned-our_children.result.left in
+    let or = c.turned-our_children.result.right in
+    let tl = c.turned-their_children.result.left in
+    let tr = c.turned-their_children.result.right in
     record {
       ours = c.join_both.ensures.ours ∙ (λ i. join (hash.pair (by.key i)) (by.masks i) a ol or) ∙ (λ i. parent_at hash t.origin a (l i) (r i)) ∙ sym (node-up hash code t.origin a b (omega arith));
       theirs = c.join_both.ensures.theirs ∙ (λ i. join (hash.pair (by.key i)) (by.masks i) a tl tr) ∙ (λ i. parent_at hash t.origin a (l' i) (r' i)) ∙ sym (their-parent hash code t a b (omega arith) near);
