@@ -1,11 +1,11 @@
 -- The digits of numbers, of stamps and of codewords.
 -- Assumes nothing.
-use Rattle.std.specs.Prelude.{◌≡◌, ℕ, zero, suc, ◌+◌, ◌-◌, ◌*◌, ◌/◌, ◌%◌, ◌^◌, ◌<◌, ◌≤◌, ◌⊎◌, List, [], ◌∷◌, ◌++◌, length, get_or, ◌≢◌, slice_index, slice_index_or, refl}
+use Rattle.std.specs.Prelude.{◌≡◌, ℕ, zero, suc, ◌+◌, ◌-◌, ◌*◌, ◌/◌, ◌%◌, ◌^◌, ◌<◌, ◌≤◌, ◌⊎◌, List, [], ◌∷◌, ◌++◌, length, get_or, drop, ◌≢◌, slice_index, slice_index_or, refl}
 use Rattle.std.proofs.Common.{sym, ap, ◌∙◌, inl, inr, ⊎_elim, mod-eq_of_lt, le_of_suc-le-suc, mul-zero, mul-suc, zero-mul, zero-add, mul-le-mul_left, arith, lit<}
 use Rattle.std.proofs.Math.Nat.{mod-one, mul-div_right, mul-sub}
 use Rattle.std.specs.List.{AllByRecursion}
-use Rattle.std.proofs.lemmas.Nat.{mod-pow-add, pow_pos, mod_below, div_below, le-div, mul-add-lt, div-add-mod'}
-use Rattle.std.proofs.lemmas.List.{length-append, get_or_append_left, get_or-append_right, get_or-append-add, get_or_past, ext_get_or}
+use Rattle.std.proofs.lemmas.Nat.{mod-pow-add, pow_pos, mod_below, div_below, le-div, mul-le, mul-add-lt, div-add-mod', pow_below}
+use Rattle.std.proofs.lemmas.List.{length-append, get_or_append_left, get_or-append_right, get_or-append-add, get_or_past, ext_get_or, at_drop_more, at_drop_all}
 use Rattle.std.proofs.ByRecursion.{All-get_or, All-append, All-from_get_or}
 use Rattle.std.proofs.lemmas.Bool.{cases_lt, cases_eq, cases_order, cond-true, cond-false, lt-ltb, eq-eqb, ne_eqb}
 use Rattle.std.proofs.lemmas.List.FromFn.{length-map-range_with_len, get_or-map-range_with_len}
@@ -189,6 +189,22 @@ cut-injective w v m n sm sn e =
     ext_get_or 0 m n (sm.0 ∙ sym sn.0) (λ a h.
     let h' : a < 16 = omega (arith, sm.0) in
     ending-injective w q (slice_index m a) (slice_index n a) (small m a sm h') (small n a sn h') (same a h'))
+
+pub checksum-more : (w : ℕ) (m : List ℕ) (j : ℕ) → j < 128 / w → checksum w (drop j (cut w m)) ≡ 2 ^ w - bits w m j + checksum w (drop (j + 1) (cut w m))
+unfolding checksum
+checksum-more w m j h =
+    at_drop_more (checksum w) (cut w m) j 0 (omega (arith, length_cut w m))
+    ∙ ap (λ t. 2 ^ w - t + checksum w (drop (j + 1) (cut w m))) (get_or-cut w m j 0 h)
+
+pub checksum-end : (w : ℕ) (m : List ℕ) (j : ℕ) → 128 / w ≤ j → checksum w (drop j (cut w m)) ≡ 0
+unfolding checksum
+checksum-end w m j h = at_drop_all (checksum w) (cut w m) j (omega (arith, length_cut w m))
+
+pub checksum-fits : (w : ℕ) (m : List ℕ) → Width w → checksum w (cut w m) < 2 ^ 16
+checksum-fits w m v =
+    let few : length (cut w m) ≤ 128 = omega (arith, length_cut w m, digit-count w v, mul-le 1 (8 / w) w (8 / w) (width-pos w v) (omega arith), v.0) in
+    let power : 2 ^ w < 2 ^ 8 = pow_below w 8 v.1 in
+    omega (arith, checksum-le w (cut w m), mul-le (length (cut w m)) (2 ^ w) 128 256 few (omega arith))
 
 -- the Winternitz codes
 
