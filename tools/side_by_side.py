@@ -103,7 +103,7 @@ def main(commit):
             print(f"### {crate}\n\n```text")
             print("\n\n".join("\n".join(b) for b in blocks))
             print("```\n")
-    print("Public functions with a new name, each with a contract of its own where it is a library's: " + "; ".join(sorted(set(fresh))) + ".")
+    print("Functions with a new name that are public, or public in their crate; those of libraries have contracts of their own: " + "; ".join(sorted(set(fresh))) + ".")
 
 
 if __name__ == "__main__":
