@@ -9,20 +9,10 @@ use Rattle.tree.specs.Nodes.{raise}
 use Rattle.verifier.specs.Refusals.{refusal_number}
 use Rattle.verifier.specs.Rules.{after, open_rule, verify_rule}
 use Rattle.verifier.specs.declared.refusal.Refusal.{Refusal}
+use Rattle.schemes.specs.Names.{hash_named, code_named, scheme_numbered}
+use Rattle.schemes.specs.declared.scheme.Scheme.{Scheme}
 use Rattle.bench_calls.specs.declared.reply.Reply.{Reply}
 use Rattle.bench_calls.specs.declared.source.Source.{Source}
-
--- by the hash and the code with these numbers; `none` where one of them is not known
-abbrev pub numbered : {A : Type 0} → Option Hash → Option Code → A → (Hash → Code → A) → A
-numbered (Some hash) (Some code) none by = by hash code
-numbered (Some hash) None none by = none
-numbered None code none by = none
-
--- what holds by the hash and the code with these numbers; `none` where one of them is not known
-abbrev pub Numbered : Option Hash → Option Code → Type 0 → (Hash → Code → Type 0) → Type 0
-Numbered (Some hash) (Some code) none by = by hash code
-Numbered (Some hash) None none by = none
-Numbered None code none by = none
 
 -- a refusal's number and zeros; or 0 and the numbers of an answer
 abbrev pub refused_reply : Refusal → Reply
@@ -46,6 +36,19 @@ three_reply = reply_of (λ x. x)
 abbrev pub left_by : {A : Type 0} → Result A Refusal → List ℕ → (A → List ℕ) → List ℕ
 left_by (Ok x) old new = new x
 left_by (Err e) old new = old
+
+-- an answer by the hash and the code with these numbers, or the refusal of a number that is not known
+abbrev pub numbered : {A : Type 0} → ℕ → ℕ → (Hash → Code → Result A Refusal) → Result A Refusal
+numbered hash code by = after (scheme_numbered hash code) (λ s. by (hash_named s.hash) (code_named s.code))
+
+-- what is left of a buffer by them: as it was, where a number is not known
+abbrev pub numbered_output : ℕ → ℕ → List ℕ → (Hash → Code → List ℕ) → List ℕ
+numbered_output hash code old by = left_by (scheme_numbered hash code) old (λ s. by (hash_named s.hash) (code_named s.code))
+
+-- what holds by them, or of the refusal
+abbrev pub Numbered : Result Scheme Refusal → (Refusal → Type 0) → (Hash → Code → Type 0) → Type 0
+Numbered (Ok s) none by = by (hash_named s.hash) (code_named s.code)
+Numbered (Err e) none by = none e
 
 -- what a source's tree is grown from
 abbrev pub origin_from : Source → ℕ → Origin

@@ -1,9 +1,8 @@
 // The calls on whole keys. Hash and code go by their numbers, of which an unknown one is refused with 8. Nothing of a key stays
 // between two calls: each lives a key's life from its source on.
 ghost use Rattle.std.specs.Prelude.{◌≡◌, Err};
-ghost use Rattle.bench_calls.specs.Lives.{Numbered, numbered, one_reply, two_reply, three_reply, verified, grown, grown_node, keyed, keyed_output, signed, signed_output, traced, traced_report};
-ghost use Rattle.schemes.specs.Known.{hash_numbered, code_numbered};
-ghost use Rattle.verifier.specs.declared.refusal.Refusal.TheVariants.{Parameters};
+ghost use Rattle.bench_calls.specs.Lives.{Numbered, numbered, numbered_output, one_reply, two_reply, three_reply, verified, grown, grown_node, keyed, keyed_output, signed, signed_output, traced, traced_report};
+ghost use Rattle.schemes.specs.Names.{scheme_numbered};
 
 use crate::lives::{Grow, Key, Sign, Trace, Verify};
 use crate::reply::Reply;
@@ -17,7 +16,7 @@ fn run_numbered<A, T: Task<Output = Result<A, Refusal>>>(
     code: u8,
     task: &mut T,
 ) -> Result<A, Refusal>
-    ensures { Numbered (hash_numbered hash) (code_numbered code) ((result ≡ Err Parameters) × (task.new ≡ task.old)) (λ h c. T.gives task.old h c result task.new) }
+    ensures { Numbered (scheme_numbered hash code) (λ e. (result ≡ Err e) × (task.new ≡ task.old)) (λ h c. T.gives task.old h c result task.new) }
 {
     Scheme::numbered(hash, code)?.run(task)
 }
@@ -31,7 +30,7 @@ pub extern "C" fn verify_release(
     stamp: &[u8; 16],
     record: &[u8],
 ) -> Reply
-    ensures { result ≡ one_reply (numbered (hash_numbered hash) (code_numbered code) (Err Parameters) (λ h c. verified h c key.now stamp.now «record».now)) }
+    ensures { result ≡ one_reply (numbered hash code (λ h c. verified h c key.now stamp.now «record».now)) }
 {
     let mut task = Verify {
         key,
@@ -51,8 +50,8 @@ pub extern "C" fn grow_leaves(
     level: u8,
     node: &mut [u8; 16],
 ) -> Reply
-    ensures answer { result ≡ two_reply (numbered (hash_numbered hash) (code_numbered code) (Err Parameters) (λ h c. grown h c source.now leaves level)) }
-    ensures output { node.new ≡ numbered (hash_numbered hash) (code_numbered code) node.old (λ h c. grown_node h c source.now leaves level node.old) }
+    ensures answer { result ≡ two_reply (numbered hash code (λ h c. grown h c source.now leaves level)) }
+    ensures output { node.new ≡ numbered_output hash code node.old (λ h c. grown_node h c source.now leaves level node.old) }
 {
     let mut task = Grow {
         source,
@@ -72,8 +71,8 @@ pub extern "C" fn write_key(
     turns: u32,
     out: &mut [u8],
 ) -> Reply
-    ensures answer { result ≡ one_reply (numbered (hash_numbered hash) (code_numbered code) (Err Parameters) (λ h c. keyed h c source.now turns out.old)) }
-    ensures output { out.new ≡ numbered (hash_numbered hash) (code_numbered code) out.old (λ h c. keyed_output h c source.now turns out.old) }
+    ensures answer { result ≡ one_reply (numbered hash code (λ h c. keyed h c source.now turns out.old)) }
+    ensures output { out.new ≡ numbered_output hash code out.old (λ h c. keyed_output h c source.now turns out.old) }
 {
     let mut task = Key { source, turns, out };
     Reply::from(run_numbered(hash, code, &mut task))
@@ -89,8 +88,8 @@ pub extern "C" fn sign_release(
     stamp: &[u8; 16],
     out: &mut [u8],
 ) -> Reply
-    ensures answer { result ≡ two_reply (numbered (hash_numbered hash) (code_numbered code) (Err Parameters) (λ h c. signed h c source.now leaf out.old)) }
-    ensures output { out.new ≡ numbered (hash_numbered hash) (code_numbered code) out.old (λ h c. signed_output h c source.now leaf stamp.now out.old) }
+    ensures answer { result ≡ two_reply (numbered hash code (λ h c. signed h c source.now leaf out.old)) }
+    ensures output { out.new ≡ numbered_output hash code out.old (λ h c. signed_output h c source.now leaf stamp.now out.old) }
 {
     let mut task = Sign {
         source,
@@ -114,8 +113,8 @@ pub extern "C" fn trace_release(
     record: &[u8],
     report: &mut [u8; 64],
 ) -> Reply
-    ensures answer { result ≡ three_reply (numbered (hash_numbered hash) (code_numbered code) (Err Parameters) (λ h c. traced h c source.now leaf spent.now stamp.now «record».now)) }
-    ensures output { report.new ≡ numbered (hash_numbered hash) (code_numbered code) report.old (λ h c. traced_report h c source.now leaf spent.now stamp.now «record».now report.old) }
+    ensures answer { result ≡ three_reply (numbered hash code (λ h c. traced h c source.now leaf spent.now stamp.now «record».now)) }
+    ensures output { report.new ≡ numbered_output hash code report.old (λ h c. traced_report h c source.now leaf spent.now stamp.now «record».now report.old) }
 {
     let mut task = Trace {
         source,

@@ -1,13 +1,14 @@
 -- What is reported of a key record and the orders that follow it.
 -- Assumes nothing.
-use Rattle.std.specs.Prelude.{◌≡◌, ℕ, List, [], Some, None, Ok, Err, vec_items, Option, Result}
+use Rattle.std.specs.Prelude.{◌≡◌, ℕ, List, [], Ok, Err, vec_items, Result}
 use Rattle.tree.specs.Meaning.{Hash, Code}
 use Rattle.verifier.specs.Keys.{Key}
 use Rattle.verifier.specs.Records.{hash_number_of, code_number_of}
 use Rattle.verifier.specs.Rules.{header_rule, open_rule, verify_rule}
 use Rattle.verifier.specs.declared.refusal.Refusal.{Refusal}
 use Rattle.verifier.specs.declared.refusal.Refusal.TheVariants.{Parameters}
-use Rattle.schemes.specs.Known.{hash_numbered, code_numbered}
+use Rattle.schemes.specs.Names.{hash_named, code_named, scheme_numbered}
+use Rattle.schemes.specs.declared.scheme.Scheme.{Scheme}
 use Rattle.orders.specs.Outcomes.{Outcomes, first_record, after_record}
 use Rattle.orders.specs.declared.report.Report.{Report}
 
@@ -27,13 +28,15 @@ Unknown (Ok body) report = Refused Parameters report
 Unknown (Err e) report = Refused e report
 
 -- by the hash and the code that the key record names
-abbrev pub CheckedBy : Option Hash → Option Code → List ℕ → List ℕ → Report → Type 0
-CheckedBy (Some hash) (Some code) key orders report = Checked hash code (open_rule hash.number code.number code.levels key) orders report
-CheckedBy (Some hash) None key orders report = Unknown (header_rule 1 key) report
-CheckedBy None code key orders report = Unknown (header_rule 1 key) report
+abbrev pub CheckedBy : Result Scheme Refusal → List ℕ → List ℕ → Report → Type 0
+CheckedBy (Ok scheme) key orders report =
+    let hash = hash_named scheme.hash in
+    let code = code_named scheme.code in
+    Checked hash code (open_rule hash.number code.number code.levels key) orders report
+CheckedBy (Err e) key orders report = Unknown (header_rule 1 key) report
 
 -- the report of an input: a key record, then orders
 abbrev pub Reports : List ℕ → Report → Type 0
 Reports input report =
     let key = first_record input in
-    CheckedBy (hash_numbered (hash_number_of key)) (code_numbered (code_number_of key)) key (after_record input) report
+    CheckedBy (scheme_numbered (hash_number_of key) (code_number_of key)) key (after_record input) report

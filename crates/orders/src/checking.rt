@@ -1,6 +1,6 @@
 // From bytes to outcomes.
 ghost use Rattle.std.specs.Prelude.{◌≡◌, ℕ, ◌<◌, List, ◌∷◌, length, IfOk, Result, OnErr};
-ghost use Rattle.schemes.specs.Known.{hash_numbered, code_numbered};
+ghost use Rattle.schemes.specs.Names.{scheme_numbered};
 ghost use Rattle.orders.specs.Outcomes.{Outcomes, after_record};
 ghost use Rattle.orders.specs.Reports.{Refused, Checked, CheckedBy, Unknown, Reports};
 ghost use Rattle.tree.specs.Meaning.{hash_of, code_of};
@@ -108,7 +108,7 @@ fn unknown(heap: Global, key: &[u8]) -> Report
 
 // The report by the hash and the code that the key record names.
 fn check_named(heap: Global, key: &[u8], orders: &[u8]) -> Result<Report, AllocError>
-    ensures report { IfOk result (λ report. CheckedBy (hash_numbered (hash_number_of key.now)) (code_numbered (code_number_of key.now)) key.now orders.now report) }
+    ensures report { IfOk result (λ report. CheckedBy (scheme_numbered (hash_number_of key.now) (code_number_of key.now)) key.now orders.now report) }
     ensures lacking { OnErr result (0 < length orders.now) }
 {
     match Scheme::numbered(byte_at(key, 6), byte_at(key, 7)) {

@@ -1,6 +1,5 @@
 -- The hashes and codes that a key record can name.
 -- Assumes nothing.
-use Rattle.std.specs.Prelude.{ℕ, cond, Some, None, Option, ◌==◌}
 use Rattle.aes128.specs.Cipher.{aes_step, aes_pair}
 use Rattle.codes.specs.Codes.{lamport_diffie, winternitz}
 use Rattle.hashes.specs.Practice.{practice_step, practice_pair}
@@ -24,11 +23,3 @@ winternitz2_code = record { number = 2; count = 69; top = 3; levels = 7; digit =
 
 abbrev pub winternitz4_code : Code
 winternitz4_code = record { number = 3; count = 35; top = 15; levels = 6; digit = winternitz 4 3 }
-
--- the hash with this number
-abbrev pub hash_numbered : ℕ → Option Hash
-hash_numbered n = cond (n == 1) (Some sha) (cond (n == 2) (Some aes) (cond (n == 3) (Some practice) None))
-
--- the code with this number
-abbrev pub code_numbered : ℕ → Option Code
-code_numbered n = cond (n == 1) (Some lamport_diffie_code) (cond (n == 2) (Some winternitz2_code) (cond (n == 3) (Some winternitz4_code) None))

@@ -24,11 +24,13 @@ code_named Winternitz4 = winternitz4_code
 
 -- the name of the hash with this number
 abbrev pub hash_name : ℕ → Result HashName Refusal
-hash_name n = cond (n == 1) (Ok Sha256) (cond (n == 2) (Ok Aes128) (cond (n == 3) (Ok Practice) (Err Parameters)))
+hash_name n = cond (n == sha.number) (Ok Sha256) (cond (n == aes.number) (Ok Aes128) (cond (n == practice.number) (Ok Practice) (Err Parameters)))
 
 -- the name of the code with this number
 abbrev pub code_name : ℕ → Result CodeName Refusal
-code_name n = cond (n == 1) (Ok LamportDiffie) (cond (n == 2) (Ok Winternitz2) (cond (n == 3) (Ok Winternitz4) (Err Parameters)))
+code_name n =
+    cond (n == lamport_diffie_code.number) (Ok LamportDiffie)
+    (cond (n == winternitz2_code.number) (Ok Winternitz2) (cond (n == winternitz4_code.number) (Ok Winternitz4) (Err Parameters)))
 
 -- the hash and the code with these numbers
 abbrev pub scheme_numbered : ℕ → ℕ → Result Scheme Refusal
