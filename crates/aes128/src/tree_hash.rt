@@ -17,7 +17,7 @@ impl ChainHash for Aes128Hash {
 
     ghost steps = { aes_step };
 
-    ghost small = { Prim.search rules };
+    ghost number_range = { Prim.search rules };
 
     ghost gives = { step-str };
 

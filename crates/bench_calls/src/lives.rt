@@ -69,10 +69,9 @@ impl Task for Grow<'_, '_> {
         let mut maker = begin::<H, C>(self.source)?;
         grow_on::<H, C>(&mut maker, self.leaves);
         match maker.held(self.level) {
-            Some(held) => {
-                let string = held.1;
+            Some((position, string)) => {
                 *self.node = string;
-                Ok((1, held.0))
+                Ok((1, position))
             }
             None => Ok((0, 0)),
         }

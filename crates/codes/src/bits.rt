@@ -1,3 +1,4 @@
+// Digits of a stamp, cut from its bits.
 ghost use Rattle.std.specs.Prelude.{◌≡◌, ◌/◌, ◌<◌};
 ghost use Rattle.codes.specs.Codes.{Width, bits};
 

@@ -1,4 +1,6 @@
-ghost use Rattle.std.specs.Prelude.{◌≡◌, ℕ, ◌^◌, ◌<◌, ◌≤◌, List, ◌≢◌};
+// What a code is, and the laws that it keeps.
+ghost use Rattle.std.specs.Prelude.{◌≡◌, ℕ, ◌^◌, ◌<◌, ◌≤◌, List};
+ghost use Rattle.codes.specs.Codes.{Apart};
 ghost use Rattle.strings.specs.Strings.{Str};
 
 // A code: which digit a stamp has at a place.
@@ -43,5 +45,5 @@ pub trait Code {
     ghost past: { (m : List ℕ) (k : ℕ) → COUNT ≤ k → digits m k ≡ TOP };
 
     // Of two different stamps, each has a digit smaller than the other's at the same place.
-    ghost apart: { (m n : List ℕ) → Str m → Str n → (m ≢ n) → (k : ℕ) × (digits m k < digits n k) };
+    ghost apart: { Apart digits };
 }

@@ -1,9 +1,10 @@
+// The Lamport-Diffie code.
 ghost use Rattle.codes.specs.Codes.{lamport_diffie};
 ghost use Rattle.codes.specs.Laws.{lamport_diffie-apart};
 ghost use Rattle.std.proofs.Common.{rules};
 
-use super::bits::read_bits;
-use super::code::Code;
+use crate::bits::read_bits;
+use crate::Code;
 
 // Lamport-Diffie: each bit of the stamp, followed by one minus it.
 pub struct LamportDiffie;

@@ -31,7 +31,7 @@ pub trait DigitWidth {
     ghost wide: { Width WIDTH };
 
     // What the largest digit is.
-    ghost tops: { (1 ≤ 2 ^ WIDTH - 1) × (2 ^ WIDTH - 1 ≤ 15) };
+    ghost top_range: { (1 ≤ 2 ^ WIDTH - 1) × (2 ^ WIDTH - 1 ≤ 15) };
 
     // The checksum fits its digits, which take less than 16 bits.
     ghost room: { 128 / WIDTH * 2 ^ WIDTH < 2 ^ (WIDTH * ENDS) };
@@ -39,7 +39,7 @@ pub trait DigitWidth {
     ghost short: { WIDTH * ENDS < 16 };
 
     // All digits fit the levels inside a leaf.
-    ghost leaves: { (1 ≤ 128 / WIDTH + ENDS) × (128 / WIDTH + ENDS ≤ 2 ^ LEVELS) };
+    ghost count_range: { (1 ≤ 128 / WIDTH + ENDS) × (128 / WIDTH + ENDS ≤ 2 ^ LEVELS) };
 
     ghost level_range: { (1 ≤ LEVELS) × (LEVELS ≤ 8) };
 }
@@ -68,13 +68,13 @@ impl DigitWidth for TwoBits {
 
     ghost wide = { (refl, lit< tt) };
 
-    ghost tops = { (lit≤ tt, lit≤ tt) };
+    ghost top_range = { (lit≤ tt, lit≤ tt) };
 
     ghost room = { lit< tt };
 
     ghost short = { lit< tt };
 
-    ghost leaves = { (lit≤ tt, lit≤ tt) };
+    ghost count_range = { (lit≤ tt, lit≤ tt) };
 
     ghost level_range = { (lit≤ tt, lit≤ tt) };
 }
@@ -103,13 +103,13 @@ impl DigitWidth for FourBits {
 
     ghost wide = { (refl, lit< tt) };
 
-    ghost tops = { (lit≤ tt, lit≤ tt) };
+    ghost top_range = { (lit≤ tt, lit≤ tt) };
 
     ghost room = { lit< tt };
 
     ghost short = { lit< tt };
 
-    ghost leaves = { (lit≤ tt, lit≤ tt) };
+    ghost count_range = { (lit≤ tt, lit≤ tt) };
 
     ghost level_range = { (lit≤ tt, lit≤ tt) };
 }

@@ -1,10 +1,10 @@
+// The Winternitz codes, over a width of digits.
 ghost use Rattle.std.specs.Prelude.{◌≡◌, ◌+◌, ◌-◌, ◌*◌, ◌/◌, ◌^◌, ◌<◌};
 ghost use Rattle.codes.specs.Codes.{checksum, cut, winternitz};
 ghost use Rattle.codes.specs.Laws.{winternitz-within, winternitz-past, winternitz-apart};
 
-use super::bits::read_bits;
-use super::code::Code;
-use super::widths::{DigitWidth, FourBits, TwoBits};
+use crate::bits::read_bits;
+use crate::{Code, DigitWidth, FourBits, TwoBits};
 use std::marker::PhantomData;
 
 // Winternitz: the stamp in digits of a width, and then its checksum.
@@ -52,9 +52,9 @@ impl<W: DigitWidth> Code for Winternitz<W> {
 
     ghost digits = { winternitz W.WIDTH W.ENDS };
 
-    ghost count_range = { W.leaves };
+    ghost count_range = { W.count_range };
 
-    ghost top_range = { W.tops };
+    ghost top_range = { W.top_range };
 
     ghost level_range = { W.level_range };
 

@@ -16,7 +16,7 @@ impl ChainHash for ConstantHash {
 
     ghost steps = { λ k s. zero_string };
 
-    ghost small = { Prim.search rules };
+    ghost number_range = { Prim.search rules };
 
     ghost gives = { λ k s _ _. constant-str };
 

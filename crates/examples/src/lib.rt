@@ -2,18 +2,19 @@
 #![tactic(auto)]
 
 ghost use Rattle.std.specs.Prelude.{◌≡◌, ℕ, length};
-ghost use Rattle.examples.specs.Constant.{Apart, constant};
+ghost use Rattle.codes.specs.Codes.{Apart};
+ghost use Rattle.examples.specs.Constant.{constant};
 ghost use Rattle.examples.specs.Examples.{examples, Worked};
 
 mod constant;
 
 pub use constant::ConstantHash;
 
-// How many examples there are, all of which hold; and no constant code keeps the law of codes.
+// How many examples there are, all of which hold; and no code that is blind to the stamp keeps the law of codes.
 pub fn worked_examples() -> usize
     ensures count { result ≡ length examples }
     ensures worked { Worked }
-    ensures lawless { (d : ℕ) → Apart (constant d) → ⊥ }
+    ensures lawless { (f : ℕ → ℕ) → Apart (constant f) → ⊥ }
 {
     29
 }

@@ -21,7 +21,7 @@ pub trait ChainHash {
     fn step(key: &[u8; 16], string: &[u8; 16]) -> [u8; 16]
         ensures { result ≡ steps key.now string.now };
 
-    ghost small: { NUMBER < 256 };
+    ghost number_range: { NUMBER < 256 };
 
     ghost gives: { (k s : List ℕ) → Str k → Str s → Str (steps k s) };
 }

@@ -15,7 +15,7 @@ impl ChainHash for Practice {
 
     ghost steps = { practice_step };
 
-    ghost small = { Prim.search rules };
+    ghost number_range = { Prim.search rules };
 
     ghost gives = { step-str };
 

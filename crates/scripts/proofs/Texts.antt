@@ -7,7 +7,7 @@ use Rattle.std.specs.Bool.{then_some}
 use Rattle.std.specs.List.{position_or_len}
 use Rattle.std.specs.Option.{option_map}
 use Rattle.scripts.specs.Digits.{number_from, at_most}
-use Rattle.scripts.specs.Hex.{digit_value, byte_of, onto, hex_bytes, of_length, hex_of}
+use Rattle.scripts.specs.Hex.{hex_digit, byte_of, onto, hex_bytes, of_length, hex_of}
 use Rattle.scripts.specs.Words.{word_of, after_word, left_after, string_word}
 
 -- words
@@ -70,12 +70,12 @@ following-nil None = refl
 pub hex-none : (xs : List ℕ) → hex_bytes xs ≡ following [] (hex_bytes xs)
 hex-none xs = following-nil (hex_bytes xs)
 
-hex-pair : (xs : List ℕ) → 2 ≤ length xs → hex_bytes xs ≡ onto (byte_of (digit_value (get_or xs 0 0)) (digit_value (get_or xs 1 0))) (hex_bytes (drop 2 xs))
+hex-pair : (xs : List ℕ) → 2 ≤ length xs → hex_bytes xs ≡ onto (byte_of (hex_digit (get_or xs 0 0)) (hex_digit (get_or xs 1 0))) (hex_bytes (drop 2 xs))
 hex-pair [] h = absurd (omega arith)
 hex-pair (a ∷ []) h = absurd (omega arith)
 hex-pair (a ∷ (b ∷ rest)) h = refl
 
-pub hex-more : (xs out rest : List ℕ) (i b : ℕ) → i < length out → 2 ≤ length rest → byte_of (digit_value (get_or rest 0 0)) (digit_value (get_or rest 1 0)) ≡ Some b → hex_bytes xs ≡ following (take i out) (hex_bytes rest) → hex_bytes xs ≡ following (take (i + 1) (set out i b)) (hex_bytes (drop 2 rest))
+pub hex-more : (xs out rest : List ℕ) (i b : ℕ) → i < length out → 2 ≤ length rest → byte_of (hex_digit (get_or rest 0 0)) (hex_digit (get_or rest 1 0)) ≡ Some b → hex_bytes xs ≡ following (take i out) (hex_bytes rest) → hex_bytes xs ≡ following (take (i + 1) (set out i b)) (hex_bytes (drop 2 rest))
 hex-more xs out rest i b lt two is e =
     let d = hex_bytes (drop 2 rest) in
     e
@@ -98,7 +98,7 @@ hex-full xs out [] n long e = sym (ap (of_length n) (e ∙ ap Some (append-nil o
 hex-full xs out (a ∷ []) n long e = none-left out 1 (omega arith) ∙ sym (ap (of_length n) e)
 hex-full xs out (a ∷ (b ∷ rest)) n long e =
     none-left out (length (a ∷ (b ∷ rest))) (omega arith)
-    ∙ (more-follows out (byte_of (digit_value a) (digit_value b)) (hex_bytes rest)
+    ∙ (more-follows out (byte_of (hex_digit a) (hex_digit b)) (hex_bytes rest)
     ∙ (ap (λ k. of_length k (following out (hex_bytes (a ∷ (b ∷ rest))))) long ∙ sym (ap (of_length n) e)))
 
 sized-onto : (o : Option ℕ) (r : Option (List ℕ)) (n : ℕ) → IfSome r (λ bs. n ≡ 2 * length bs) → IfSome (onto o r) (λ bs. suc (suc n) ≡ 2 * length bs)
@@ -109,7 +109,7 @@ sized-onto None r n e = tt
 hex-sized : (xs : List ℕ) → IfSome (hex_bytes xs) (λ bs. length xs ≡ 2 * length bs)
 hex-sized [] = refl
 hex-sized (a ∷ []) = tt
-hex-sized (a ∷ (b ∷ rest)) = sized-onto (byte_of (digit_value a) (digit_value b)) (hex_bytes rest) (length rest) (hex-sized rest)
+hex-sized (a ∷ (b ∷ rest)) = sized-onto (byte_of (hex_digit a) (hex_digit b)) (hex_bytes rest) (length rest) (hex-sized rest)
 
 half-of : (o : Option (List ℕ)) (n : ℕ) → IfSome o (λ bs. n ≡ 2 * length bs) → of_length (n / 2) o ≡ o
 half-of (Some bs) n e = cond-true (eqb (length bs) (n / 2)) (Some bs) None (eq-eqb (length bs) (n / 2) (omega arith))
@@ -145,25 +145,3 @@ number-past most v xs i lt over =
     sym
     (ap (λ t. at_most most (number_from v t)) (drop_more xs i 0 lt)
     ∙ none-either most (leb 48 c && leb c 57) (number_from (10 * v + (c - 48)) rest) (number-over most (10 * v + (c - 48)) rest over))
-
--- place by place
-
-pub word_more : (xs : List ℕ) (i : ℕ) → i < length xs → (get_or xs i 0 ≡ 32 → ⊥) → word_of xs ≡ take i xs ++ word_of (drop i xs) → word_of xs ≡ take (i + 1) xs ++ word_of (drop (i + 1) xs)
-word_more xs i lt ne e =
-    let c = get_or xs i 0 in
-    let w = word_of (drop (i + 1) xs) in
-    let p : word_of (drop i xs) ≡ c ∷ w = ap word_of (drop_more xs i 0 lt) ∙ cond-false (eqb c 32) [] (c ∷ w) (ne_eqb c 32 ne) in
-    e ∙ (ap (λ t. take i xs ++ t) p ∙ (sym (append_assoc (take i xs) (c ∷ []) w) ∙ ap (λ t. t ++ w) (sym (take_more xs i 0 lt))))
-
-pub after_more : (xs : List ℕ) (i : ℕ) → i < length xs → (get_or xs i 0 ≡ 32 → ⊥) → after_word xs ≡ after_word (drop i xs) → after_word xs ≡ after_word (drop (i + 1) xs)
-after_more xs i lt ne e =
-    let c = get_or xs i 0 in
-    let d = drop (i + 1) xs in
-    e ∙ (ap after_word (drop_more xs i 0 lt) ∙ cond-false (eqb c 32) (Some d) (after_word d) (ne_eqb c 32 ne))
-
-pub number_more : (most v : ℕ) (xs : List ℕ) (i : ℕ) → i < length xs → 48 ≤ get_or xs i 0 → get_or xs i 0 ≤ 57 → at_most most (number_from v (drop i xs)) ≡ at_most most (number_from (10 * v + (get_or xs i 0 - 48)) (drop (i + 1) xs))
-number_more most v xs i lt low high =
-    let c = get_or xs i 0 in
-    let d = drop (i + 1) xs in
-    ap (λ t. at_most most (number_from v t)) (drop_more xs i 0 lt)
-    ∙ ap (at_most most) (cond-true (leb 48 c && leb c 57) (number_from (10 * v + (c - 48)) d) None (and_from (leb 48 c) (leb c 57) (le-leb 48 c low) (le-leb c 57 high)))

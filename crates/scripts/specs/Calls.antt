@@ -9,6 +9,7 @@ use Rattle.scripts.specs.Words.{and_then, string_word}
 use Rattle.scripts.specs.declared.call.Call.{Call}
 use Rattle.scripts.specs.declared.call.Call.TheVariants.{Grow, Nodes, Finish, Key, Sign, Skip, Retire, Trace}
 
+-- a call of a script, with what it is given
 pub data Said : Type 0 where
   grow : Said
   nodes : Said

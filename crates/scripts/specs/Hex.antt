@@ -3,8 +3,8 @@
 use Rattle.std.specs.Prelude.{ℕ, ◌+◌, ◌-◌, ◌*◌, cond, ◌&&◌, List, [], ◌∷◌, length, Some, None, Option, ◌==◌, nat_le}
 
 -- what a digit stands for: 0 to 9 from 48 on, a to f from 97 on
-abbrev pub digit_value : ℕ → Option ℕ
-digit_value c = cond (nat_le 48 c && nat_le c 57) (Some (c - 48)) (cond (nat_le 97 c && nat_le c 102) (Some (c - 87)) None)
+abbrev pub hex_digit : ℕ → Option ℕ
+hex_digit c = cond (nat_le 48 c && nat_le c 57) (Some (c - 48)) (cond (nat_le 97 c && nat_le c 102) (Some (c - 87)) None)
 
 -- the byte that two digits name
 abbrev pub byte_of : Option ℕ → Option ℕ → Option ℕ
@@ -22,7 +22,7 @@ onto None bs = None
 abbrev pub hex_bytes : List ℕ → Option (List ℕ)
 hex_bytes [] = Some []
 hex_bytes (a ∷ []) = None
-hex_bytes (a ∷ (b ∷ rest)) = onto (byte_of (digit_value a) (digit_value b)) (hex_bytes rest)
+hex_bytes (a ∷ (b ∷ rest)) = onto (byte_of (hex_digit a) (hex_digit b)) (hex_bytes rest)
 
 -- where they are n
 abbrev pub of_length : ℕ → Option (List ℕ) → Option (List ℕ)

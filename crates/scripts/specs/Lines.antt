@@ -10,6 +10,7 @@ use Rattle.scripts.specs.declared.begin.Begin.{Begin}
 use Rattle.scripts.specs.declared.line.Line.{Line}
 use Rattle.scripts.specs.declared.line.Line.TheVariants as line
 
+-- what a line asks for
 pub data Meant : Type 0 where
   nothing : Meant
   no_call : Meant

@@ -26,6 +26,7 @@ pub record Held : Type 0 where
 abbrev pub node_of : Node → Held
 node_of n = record { level = n.level; position = n.position; node = n.node }
 
+-- an answer, with what it tells
 pub data Told : Type 0 where
   begun : (hash code height : ℕ) → Told
   grown : (leaves : ℕ) → Told
@@ -68,7 +69,7 @@ unfoldable pub held_below : Making → ℕ → List Held
 held_below m zero = []
 held_below m (suc n) = held_below m n ++ held_one n (signer_rules.held_rule m n)
 
--- a key has no more than nine levels above its leaves' chains
+-- on levels 0 to 8, since no key is higher
 abbrev pub held_nodes : Making → List Held
 held_nodes m = held_below m 9
 

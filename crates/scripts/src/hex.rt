@@ -1,13 +1,13 @@
 // Bytes as hex digits, two to a byte, in lower case.
 ghost use Rattle.std.specs.Prelude.{◌≡◌, ◌<◌, length, IfSome, IfOk, vec_items};
 ghost use Rattle.std.specs.Option.{option_map};
-ghost use Rattle.scripts.specs.Hex.{digit_value, byte_of, hex_bytes, hex_of};
+ghost use Rattle.scripts.specs.Hex.{hex_digit, byte_of, hex_bytes, hex_of};
 
 use std::alloc::{AllocError, Global};
 
 // What a digit stands for.
 fn value(digit: u8) -> Option<u8>
-    ensures value { result ≡ digit_value digit }
+    ensures value { result ≡ hex_digit digit }
     ensures within { IfSome result (λ n. n < 16) }
 {
     match digit {
@@ -19,7 +19,7 @@ fn value(digit: u8) -> Option<u8>
 
 // The byte that two digits name.
 fn byte(high: u8, low: u8) -> Option<u8>
-    ensures { result ≡ byte_of (digit_value high) (digit_value low) }
+    ensures { result ≡ byte_of (hex_digit high) (hex_digit low) }
 {
     Some(16 * value(high)? + value(low)?)
 }

@@ -6,13 +6,13 @@ ghost use Rattle.scripts.specs.Calls.{said};
 ghost use Rattle.scripts.specs.Replies.{Takes, told, state_of, reply, leaves};
 ghost use Rattle.tree.specs.Meaning.{hash_of, code_of};
 
+use crate::session::maker_calls::while_growing;
+use crate::session::retired_calls::out_of_service;
+use crate::session::signer_calls::in_service;
 use crate::{Answer, Begin, Call};
 use codes::Code;
 use hashes::TreeHash;
-use maker_calls::while_growing;
-use retired_calls::out_of_service;
 use signer::{Maker, Plan, Retired, Signer};
-use signer_calls::in_service;
 use std::alloc::{AllocError, Global};
 
 mod maker_calls;
@@ -34,10 +34,7 @@ impl<H: TreeHash, C: Code> Session<H, C> {
     pub fn begin(plan: Plan, begin: &Begin) -> Session<H, C>
         ensures { state_of result ≡ growing (begin_rule (record { seed = begin.now.seed; hash_key = begin.now.hash_key; masks = begin.now.masks; height = plan.height })) }
     {
-        let seed = begin.seed;
-        let hash_key = begin.hash_key;
-        let masks = begin.masks;
-        Session::Growing(Maker::begin(plan, seed, hash_key, masks))
+        Session::Growing(Maker::begin(plan, begin.seed, begin.hash_key, begin.masks))
     }
 
     // Answers a call. One that the key does not have now changes nothing.

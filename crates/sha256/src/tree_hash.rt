@@ -30,7 +30,7 @@ impl ChainHash for Sha256Hash {
 
     ghost steps = { sha_step };
 
-    ghost small = { Prim.search rules };
+    ghost number_range = { Prim.search rules };
 
     ghost gives = { λ k s a b. cut-str _ };
 

@@ -4,14 +4,15 @@ use Rattle.std.proofs.Common.{◌≡◌, ℕ, ◌++◌, List, replicate, get_or,
 use Rattle.std.proofs.ByRecursion.{All-append}
 use Rattle.examples.specs.Examples.{Right, hashing, coding, measuring, skipping, tracing, examples}
 use Rattle.strings.specs.Strings.{Str, zero_string}
-use Rattle.examples.specs.Constant.{Apart, constant}
+use Rattle.codes.specs.Codes.{Apart}
+use Rattle.examples.specs.Constant.{constant}
 use Rattle.examples.proofs.Answered.{hashing-right, coding-right, measuring-right, skipping-right}
 use Rattle.examples.proofs.Traced.{tracing-right}
 use Rattle.examples.proofs.worked_examples.Goals as goal
 
 -- of two stamps, neither has a smaller digit than the other
-lawless : (d : ℕ) → Apart (constant d) → ⊥
-lawless d apart =
+lawless : (f : ℕ → ℕ) → Apart (constant f) → ⊥
+lawless f apart =
     let ones : List ℕ = replicate 16 1 in
     let str : Str zero_string = search rules in
     let str' : Str ones = search rules in

@@ -7,8 +7,7 @@ ghost use Rattle.scripts.specs.Replies.{Takes, told, grown, answered, node_of, h
 ghost use Rattle.signer.specs.Views.{making_of};
 ghost use Rattle.tree.specs.Meaning.{hash_of, code_of};
 
-use super::Session;
-use crate::{Answer, Call, Node};
+use crate::{Answer, Call, Node, Session};
 use codes::Code;
 use hashes::TreeHash;
 use signer::Maker;
@@ -23,8 +22,7 @@ fn held_nodes<H: TreeHash, C: Code>(
 {
     let mut nodes = Vec::new(heap);
     for level in 0..9u8 {
-        if let Some(held) = maker.held(level) {
-            let (position, node) = held;
+        if let Some((position, node)) = maker.held(level) {
             nodes.push(Node {
                 level,
                 position,

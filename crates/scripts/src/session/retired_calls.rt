@@ -6,9 +6,8 @@ ghost use Rattle.scripts.specs.Replies.{Takes, told, state_of, reply, leaves};
 ghost use Rattle.signer.specs.Views.{signing_of};
 ghost use Rattle.tree.specs.Meaning.{hash_of, code_of};
 
-use super::Session;
-use super::unchanged::{key, trace};
-use crate::{Answer, Call};
+use crate::session::unchanged::{key, trace};
+use crate::{Answer, Call, Session};
 use codes::Code;
 use hashes::TreeHash;
 use signer::Retired;

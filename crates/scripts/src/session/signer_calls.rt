@@ -7,10 +7,9 @@ ghost use Rattle.scripts.specs.Replies.{Takes, told, next, answered, output, sig
 ghost use Rattle.signer.specs.Views.{signing_of};
 ghost use Rattle.tree.specs.Meaning.{hash_of, code_of};
 
-use super::Session;
-use super::outputs::output_of;
-use super::unchanged::{key, trace};
-use crate::{Answer, Call};
+use crate::session::outputs::output_of;
+use crate::session::unchanged::{key, trace};
+use crate::{Answer, Call, Session};
 use codes::Code;
 use hashes::TreeHash;
 use signer::Signer;

@@ -4,8 +4,8 @@ ghost use Rattle.scripts.specs.Replies.{told, key_reply, trace_reply};
 ghost use Rattle.signer.specs.Views.{signing_of};
 ghost use Rattle.tree.specs.Meaning.{hash_of, code_of};
 
-use super::outputs::output_of;
 use crate::Answer;
+use crate::session::outputs::output_of;
 use codes::Code;
 use hashes::TreeHash;
 use signer::Signer;

@@ -6,10 +6,9 @@ ghost use Rattle.histories.specs.Rules.{begin_rule, grow_answer, grow_leaves, he
 ghost use Rattle.signer.specs.Views.{making_of, signing_of};
 ghost use Rattle.tree.specs.Meaning.{hash_of, code_of};
 
-use super::Maker;
 use crate::ledger::Ledger;
 use crate::scratch::Scratch;
-use crate::{Plan, Signer};
+use crate::{Maker, Plan, Signer};
 use codes::Code;
 use growth::{Origin, Tree};
 use hashes::TreeHash;

@@ -5,9 +5,9 @@ ghost use Rattle.histories.specs.Rules.{Accepted, Accepts, release_record, sign_
 ghost use Rattle.signer.specs.Views.{signing_of};
 ghost use Rattle.tree.specs.Meaning.{hash_of, code_of};
 
-use super::{Retired, Signer};
 use crate::records::write_release;
 use crate::scratch::Scratch;
+use crate::{Retired, Signer};
 use codes::Code;
 use growth::Tree;
 use hashes::TreeHash;

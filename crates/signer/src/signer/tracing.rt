@@ -7,9 +7,9 @@ ghost use Rattle.signer.specs.Views.{signing_of};
 ghost use Rattle.tree.specs.Meaning.{hash_of, code_of};
 ghost use Rattle.verifier.specs.Rules.{open_rule};
 
-use super::{Retired, Signer};
 use crate::records::write_key;
 use crate::scratch::Scratch;
+use crate::{Retired, Signer};
 use codes::Code;
 use compare::Subject;
 use growth::Tree;
