@@ -1,10 +1,10 @@
 -- The field of 256 elements of FIPS 197, with the modulus x^8 + x^4 + x^3 + x + 1, and the substitution of bytes that is made from it.
 -- A byte is the polynomial of its bits.
 -- Assumes nothing.
-use Rattle.std.specs.Prelude.{ℕ, zero, suc, ◌+◌, ◌*◌, ◌/◌, ◌%◌, ◌^◌, cond, List, [], ◌∷◌, map, ◌==◌, bit_xor}
+use Rattle.std.specs.Prelude.{ℕ, zero, suc, ◌+◌, ◌*◌, ◌/◌, ◌%◌, ◌^◌, if◌then◌else◌, List, [], ◌∷◌, map, ◌==◌, bit_xor}
 use Rattle.std.specs.List.{range_with_len}
 
--- a times x: where this has a bit 8, the modulus 11b is taken away, of which 1b is left below that bit
+-- a times x: where this has a bit 8, the modulus 0x11b is taken away, of which 0x1b, that is 27, is left below that bit
 abbrev pub times_x : ℕ → ℕ
 times_x a = bit_xor ((a * 2) % 256) ((a / 128) * 27)
 
@@ -16,7 +16,9 @@ power_of_x (suc n) = times_x (power_of_x n)
 -- the product of the polynomial of the lowest n bits of a, and b
 abbrev pub mul_bits : ℕ → ℕ → ℕ → ℕ
 mul_bits zero a b = 0
-mul_bits (suc n) a b = cond (a % 2 == 1) (bit_xor (mul_bits n (a / 2) (times_x b)) b) (mul_bits n (a / 2) (times_x b))
+mul_bits (suc n) a b =
+    if a % 2 == 1 then bit_xor (mul_bits n (a / 2) (times_x b)) b
+    else mul_bits n (a / 2) (times_x b)
 
 abbrev pub mul : ℕ → ℕ → ℕ
 mul a b = mul_bits 8 a b
@@ -24,7 +26,7 @@ mul a b = mul_bits 8 a b
 -- the first number of a list whose product with a is 1, or 0
 abbrev pub inverse_among : ℕ → List ℕ → ℕ
 inverse_among a [] = 0
-inverse_among a (b ∷ bs) = cond (mul a b == 1) b (inverse_among a bs)
+inverse_among a (b ∷ bs) = if mul a b == 1 then b else inverse_among a bs
 
 -- the multiplicative inverse; that of 0 is 0
 abbrev pub inverse : ℕ → ℕ
@@ -38,7 +40,7 @@ abbrev pub from_bits : List ℕ → ℕ
 from_bits [] = 0
 from_bits (b ∷ bs) = b + 2 * from_bits bs
 
--- bit i of the affine map, with the constant 63
+-- bit i of the affine map, with the constant 0x63, that is 99
 abbrev pub affine_bit : ℕ → ℕ → ℕ
 affine_bit b i = bit_xor (bit_xor (bit_xor (bit_xor (bit_xor (bit b i) (bit b (i + 4))) (bit b (i + 5))) (bit b (i + 6))) (bit b (i + 7))) (bit 99 i)
 

@@ -1,6 +1,6 @@
 -- The key expansion of FIPS 197, word by word. A word is a list of 4 bytes.
 -- Assumes nothing.
-use Rattle.std.specs.Prelude.{ℕ, zero, suc, ◌+◌, ◌-◌, ◌*◌, ◌/◌, ◌%◌, cond, List, [], ◌∷◌, ◌==◌, slice_index}
+use Rattle.std.specs.Prelude.{ℕ, zero, suc, ◌+◌, ◌-◌, ◌*◌, ◌/◌, ◌%◌, if◌then◌else◌, List, [], ◌∷◌, ◌==◌, slice_index}
 use Rattle.strings.specs.Strings.{xor}
 use Rattle.aes128.specs.Field.{power_of_x, sub}
 use Rattle.aes128.specs.State.{state, word, column}
@@ -17,7 +17,7 @@ rcon n = power_of_x (n - 1) ∷ 0 ∷ 0 ∷ 0 ∷ []
 
 -- what is added to word i - 4 to make word i: the last word, which at each fourth place is rotated, substituted and given a constant
 abbrev pub temp : ℕ → List ℕ → List ℕ
-temp i w = cond (i % 4 == 0) (xor (sub_word (rot_word w)) (rcon (i / 4))) w
+temp i w = if i % 4 == 0 then xor (sub_word (rot_word w)) (rcon (i / 4)) else w
 
 -- word i of the key schedule
 unfoldable pub key_word : List ℕ → ℕ → List ℕ

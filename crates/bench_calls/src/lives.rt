@@ -69,9 +69,10 @@ impl Task for Grow<'_, '_> {
         let mut maker = begin::<H, C>(self.source)?;
         grow_on::<H, C>(&mut maker, self.leaves);
         match maker.held(self.level) {
-            Some((position, string)) => {
+            Some(held) => {
+                let string = held.1;
                 *self.node = string;
-                Ok((1, position))
+                Ok((1, held.0))
             }
             None => Ok((0, 0)),
         }

@@ -1,6 +1,6 @@
 -- The digits of a stamp, as three codes write them.
 -- Assumes nothing.
-use Rattle.std.specs.Prelude.{◌≡◌, ℕ, zero, suc, ◌+◌, ◌-◌, ◌*◌, ◌/◌, ◌%◌, ◌^◌, ◌<◌, cond, List, [], ◌∷◌, ◌++◌, map, ◌≢◌, ◌==◌, nat_lt, slice_index, slice_index_or}
+use Rattle.std.specs.Prelude.{◌≡◌, ℕ, zero, suc, ◌+◌, ◌-◌, ◌*◌, ◌/◌, ◌%◌, ◌^◌, ◌<◌, if◌then◌else◌, List, [], ◌∷◌, ◌++◌, map, ◌≢◌, ◌==◌, nat_lt, slice_index, slice_index_or}
 use Rattle.std.specs.List.{range_with_len}
 use Rattle.strings.specs.Strings.{Str}
 
@@ -23,7 +23,7 @@ cut w stamp = map (bits w stamp) (range_with_len 0 (128 / w))
 -- Lamport-Diffie: each bit, and one minus it
 abbrev pub lamport_diffie : List ℕ → ℕ → ℕ
 lamport_diffie stamp k =
-    cond (nat_lt k 256) (cond (k % 2 == 0) (bits 1 stamp (k / 2)) (1 - bits 1 stamp (k / 2))) 1
+    if nat_lt k 256 then (if k % 2 == 0 then bits 1 stamp (k / 2) else 1 - bits 1 stamp (k / 2)) else 1
 
 -- what all digits of w bits lack to 2 ^ w, in sum: it falls where a digit grows
 unfoldable pub checksum : ℕ → List ℕ → ℕ

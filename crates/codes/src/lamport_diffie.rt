@@ -3,8 +3,8 @@ ghost use Rattle.codes.specs.Codes.{lamport_diffie};
 ghost use Rattle.codes.specs.Laws.{lamport_diffie-apart};
 ghost use Rattle.std.proofs.Common.{rules};
 
-use crate::bits::read_bits;
 use crate::Code;
+use crate::bits::read_bits;
 
 // Lamport-Diffie: each bit of the stamp, followed by one minus it.
 pub struct LamportDiffie;

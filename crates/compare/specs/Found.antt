@@ -40,8 +40,8 @@ module _ (hash : Hash) (code : Code) (t : Traced) where
   abbrev pub hidden_report : ℕ → List ℕ
   hidden_report k = our_chain hash code t k (code.digit t.stamp k) ++ (zero_string ++ (zero_string ++ zero_string))
 
--- the lowest level, then the lowest position; else the lowest chain, then the greatest height; else the lowest chain whose
--- string was not revealed; else the record is ours
+-- the node nearest the root (the least level number), and of those the least position; else the lowest chain, and on it the greatest
+-- height; else the lowest chain whose string was not revealed; else the record is ours
 pub data Found (hash : Hash) (code : Code) (t : Traced) : Verdict → Type 0 where
   node_break : (a b : ℕ) → NodeBreak hash code t a b → ((a' b' : ℕ) → NodeBreak hash code t a' b' → (a < a') ⊎ ((a ≡ a') × (b ≤ b'))) → Found hash code t (Node (record { first = a; second = b; report = node_report hash code t a b }))
   chain_break : ((a b : ℕ) → NodeBreak hash code t a b → ⊥) → (k e : ℕ) → ChainBreak hash code t k e → ((k' e' : ℕ) → ChainBreak hash code t k' e' → (k < k') ⊎ ((k ≡ k') × (e' ≤ e))) → Found hash code t (Chain (record { first = k; second = e; report = chain_report hash code t k e }))

@@ -1,6 +1,6 @@
 -- The two sides of a comparison at one leaf: what the signer's seed gives, and what a release record gives.
 -- Assumes nothing.
-use Rattle.std.specs.Prelude.{ℕ, zero, suc, ◌+◌, ◌-◌, ◌*◌, ◌/◌, ◌%◌, ◌^◌, cond, List, Some, None, Option, ◌==◌, nat_le}
+use Rattle.std.specs.Prelude.{ℕ, zero, suc, ◌+◌, ◌-◌, ◌*◌, ◌/◌, ◌%◌, ◌^◌, if◌then◌else◌, List, Some, None, Option, ◌==◌, nat_le}
 use Rattle.strings.specs.Strings.{xor, string_at}
 use Rattle.tree.specs.Meaning.{Hash, Code}
 use Rattle.tree.specs.Nodes.{raise, node, one_time}
@@ -19,9 +19,11 @@ pub record Traced : Type 0 where
 -- what a record gives for the node at position b, d levels above the leaves: on the way up from leaf i it is the parent of
 -- what the record gives below it; beside that way it is the record's sibling of that level
 unfoldable pub given : (ℕ → List ℕ → List ℕ → List ℕ) → (ℕ → List ℕ) → List ℕ → ℕ → ℕ → ℕ → ℕ → List ℕ
-given parent sibling leaf h i zero b = cond (b == i) leaf (sibling h)
+given parent sibling leaf h i zero b = if b == i then leaf else sibling h
 given parent sibling leaf h i (suc d) b =
-    cond (b == i / 2 ^ suc d) (parent (h - suc d) (given parent sibling leaf h i d (2 * b)) (given parent sibling leaf h i d (2 * b + 1))) (sibling (h - suc d))
+    if b == i / 2 ^ suc d
+    then parent (h - suc d) (given parent sibling leaf h i d (2 * b)) (given parent sibling leaf h i d (2 * b + 1))
+    else sibling (h - suc d)
 
 -- the least height of a chain that a row of the ledger has revealed: the digit of the stamp in it, or the top digit alone
 abbrev pub revealed_height : Code → Option (List ℕ) → ℕ → ℕ
@@ -57,9 +59,9 @@ module _ (hash : Hash) (code : Code) (t : Traced) where
   -- the node at level a, position b, on the record's side, for nodes above or within its leaf and the siblings on the way
   abbrev pub their_node : ℕ → ℕ → List ℕ
   their_node a b =
-      cond (nat_le a t.origin.height)
-      (given (parent_at hash t.origin) their_sibling their_leaf t.origin.height t.leaf (t.origin.height - a) b)
-      (node (parent_at hash t.origin) their_bottom a (t.origin.height + code.levels - a) b)
+      if nat_le a t.origin.height
+      then given (parent_at hash t.origin) their_sibling their_leaf t.origin.height t.leaf (t.origin.height - a) b
+      else node (parent_at hash t.origin) their_bottom a (t.origin.height + code.levels - a) b
 
   -- the two inputs of pair at level a, position b, of a side: its children under the masks of level a
   abbrev pub left_input : (ℕ → ℕ → List ℕ) → ℕ → ℕ → List ℕ

@@ -84,7 +84,8 @@ fn hidden<C: Code>(
     })
 }
 
-// A chain of the leaf: its top on both sides, where they became one, and its string where that was not revealed.
+// A chain of the leaf: its top on both sides; the greatest height at which two different strings step to one; and its string where
+// that was not revealed.
 #[derive(Clone, Copy)]
 pub(crate) struct Chain {
     pub top: Sides,
@@ -92,7 +93,7 @@ pub(crate) struct Chain {
     pub hidden: Option<Find>,
 }
 
-// What the chains of a leaf show: where a chain's two sides first became one, and the first string that was not revealed.
+// What the chains of a leaf show: the break of the first chain that has one, and the first string that was not revealed.
 #[derive(Clone, Copy)]
 pub(crate) struct Chains {
     pub broken: Option<Find>,

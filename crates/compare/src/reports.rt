@@ -1,4 +1,4 @@
-// Reports.
+// A report: four strings in one buffer.
 ghost use Rattle.std.specs.Prelude.{◌≡◌, ◌++◌};
 
 use strings::put;

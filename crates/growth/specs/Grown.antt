@@ -1,6 +1,6 @@
 -- The tree that a seed, a hash key and masks give, and what of it is held while it is grown.
 -- Assumes nothing.
-use Rattle.std.specs.Prelude.{◌≡◌, ℕ, zero, suc, ◌+◌, ◌-◌, ◌/◌, ◌%◌, ◌^◌, ◌<◌, Bool, cond, ◌&&◌, List, ◌==◌, nat_le}
+use Rattle.std.specs.Prelude.{◌≡◌, ℕ, zero, suc, ◌+◌, ◌-◌, ◌/◌, ◌%◌, ◌^◌, ◌<◌, Bool, if◌then◌else◌, ◌&&◌, List, ◌==◌, nat_le}
 use Rattle.strings.specs.Strings.{numeral, zero_string, string_at, put_string}
 use Rattle.tree.specs.Meaning.{Hash, Code}
 use Rattle.tree.specs.Nodes.{raise, join, node, one_time}
@@ -30,7 +30,7 @@ parent_at hash o = join (hash.pair o.hash_key) o.masks
 abbrev pub node_at : Hash → Code → Origin → ℕ → ℕ → List ℕ
 node_at hash code o a b = node (parent_at hash o) (bottom hash code o) a (o.height + code.levels - a) b
 
--- the subtrees of 2 ^ j leaves that g leaves fill
+-- how many subtrees of 2 ^ j leaves g leaves fill
 abbrev pub filled : ℕ → ℕ → ℕ
 filled g j = g / 2 ^ j
 
@@ -41,7 +41,9 @@ is_held h g a = nat_le a h && filled g (h - a) % 2 == 1
 -- what is held at level a after g leaves: the last node that g leaves fill, where it is over one of the largest
 -- complete subtrees, and else the zero string
 abbrev pub held_at : Hash → Code → Origin → ℕ → ℕ → List ℕ
-held_at hash code o g a = cond (is_held o.height g a) (node_at hash code o a (filled g (o.height - a) - 1)) zero_string
+held_at hash code o g a =
+    if is_held o.height g a then node_at hash code o a (filled g (o.height - a) - 1)
+    else zero_string
 
 -- all levels hold what they should after g leaves, and nothing else; string a of the row of nodes is for level a
 abbrev pub Holds : Hash → Code → Origin → ℕ → List ℕ → Type 0
@@ -51,7 +53,9 @@ Holds hash code o g nodes = (a : ℕ) → a < 9 → string_at nodes a ≡ held_a
 unfoldable pub carry : (ℕ → List ℕ → List ℕ → List ℕ) → ℕ → ℕ → List ℕ → List ℕ → List ℕ
 carry parent zero b s nodes = put_string nodes 0 s
 carry parent (suc a) b s nodes =
-    cond (b % 2 == 1) (carry parent a (b / 2) (parent a (string_at nodes (suc a)) s) (put_string nodes (suc a) zero_string)) (put_string nodes (suc a) s)
+    if b % 2 == 1
+    then carry parent a (b / 2) (parent a (string_at nodes (suc a)) s) (put_string nodes (suc a) zero_string)
+    else put_string nodes (suc a) s
 
 -- the row of nodes with leaf number g added
 abbrev pub with_leaf : Hash → Code → Origin → ℕ → List ℕ → List ℕ

@@ -1,6 +1,6 @@
 -- What the calls of a maker and a signer answer and leave, on all inputs.
 -- Assumes nothing.
-use Rattle.std.specs.Prelude.{◌≡◌, ℕ, zero, suc, ◌+◌, ◌-◌, ◌*◌, ◌^◌, Bool, cond, ◌||◌, List, ◌++◌, length, take, drop, replicate, Some, None, Ok, Err, Option, Result, ◌==◌, nat_lt, slice_index_or, slice_set}
+use Rattle.std.specs.Prelude.{◌≡◌, ℕ, zero, suc, ◌+◌, ◌-◌, ◌*◌, ◌^◌, Bool, if◌then◌else◌, ◌||◌, List, ◌++◌, length, take, drop, replicate, Some, None, Ok, Err, Option, Result, ◌==◌, nat_lt, slice_index_or, slice_set}
 use Rattle.std.specs.Bool.{then_some}
 use Rattle.growth.specs.Grown.{node_at, filled, is_held, with_leaf}
 use Rattle.growth.specs.Shown.{shown_row}
@@ -20,7 +20,7 @@ use Rattle.histories.specs.States.{Making, Signing}
 
 -- a plan: the height, from 1 to 8
 abbrev pub plan_rule : ℕ → Result ℕ Refusal
-plan_rule height = cond (nat_lt height 1 || nat_lt 8 height) (Err Plan) (Ok height)
+plan_rule height = if nat_lt height 1 || nat_lt 8 height then Err Plan else Ok height
 
 -- begin: no leaf is in, and nothing is held
 abbrev pub begin_rule : Origin → Making
@@ -32,10 +32,10 @@ leaf_more hash code m = record { origin = m.origin; grown = m.grown + 1; nodes =
 
 -- grow, where all leaves are in: a refusal, and nothing changes; else how many are in, and one leaf more
 abbrev pub grow_answer : Making → Result ℕ Refusal
-grow_answer m = cond (m.grown == 2 ^ m.origin.height) (Err Grown) (Ok (m.grown + 1))
+grow_answer m = if m.grown == 2 ^ m.origin.height then Err Grown else Ok (m.grown + 1)
 
 abbrev pub grow_leaves : Hash → Code → Making → Making
-grow_leaves hash code m = cond (m.grown == 2 ^ m.origin.height) m (leaf_more hash code m)
+grow_leaves hash code m = if m.grown == 2 ^ m.origin.height then m else leaf_more hash code m
 
 -- the node that is held at level a, with its position; none where no node of that level is held
 abbrev pub held_rule : Making → ℕ → Option (ℕ × List ℕ)
@@ -62,10 +62,12 @@ key_record hash code s =
 
 -- key: an output that is shorter than the record is refused and stays; else the record is at its start, and the rest stays
 abbrev pub key_answer : Code → Signing → List ℕ → Result ℕ Refusal
-key_answer code s out = cond (nat_lt (length out) (key_size code s)) (Err Output) (Ok (key_size code s))
+key_answer code s out = if nat_lt (length out) (key_size code s) then Err Output else Ok (key_size code s)
 
 abbrev pub key_output : Hash → Code → Signing → List ℕ → List ℕ
-key_output hash code s out = cond (nat_lt (length out) (key_size code s)) out (key_record hash code s ++ drop (key_size code s) out)
+key_output hash code s out =
+    if nat_lt (length out) (key_size code s) then out
+    else key_record hash code s ++ drop (key_size code s) out
 
 -- how long a release record of a signer is
 abbrev pub release_size : Code → Signing → ℕ
@@ -99,28 +101,31 @@ no_room code s out = nat_lt (length out) (release_size code s)
 
 -- sign: the record's length and its leaf number
 abbrev pub sign_answer : Code → Signing → List ℕ → Result (ℕ × ℕ) Refusal
-sign_answer code s out = cond (all_spent s) (Err Spent) (cond (no_room code s out) (Err Output) (Ok (release_size code s, s.next)))
+sign_answer code s out =
+    if all_spent s then Err Spent else
+    if no_room code s out then Err Output else Ok (release_size code s, s.next)
 
 -- where sign refuses nothing changes; else the next leaf is raised by one and the stamp entered in the leaf's row
 abbrev pub sign_state : Code → Signing → List ℕ → List ℕ → Signing
 sign_state code s stamp out =
-    cond (all_spent s || no_room code s out) s
-    (record { origin = s.origin; root = s.root; next = s.next + 1; rows = slice_set s.rows s.next (Some stamp) })
+    if all_spent s || no_room code s out then s
+    else record { origin = s.origin; root = s.root; next = s.next + 1; rows = slice_set s.rows s.next (Some stamp) }
 
 -- and the record is at the start of the output, and the rest stays
 abbrev pub sign_output : Hash → Code → Signing → List ℕ → List ℕ → List ℕ
 sign_output hash code s stamp out =
-    cond (all_spent s || no_room code s out) out (release_record hash code s stamp ++ drop (release_size code s) out)
+    if all_spent s || no_room code s out then out
+    else release_record hash code s stamp ++ drop (release_size code s) out
 
 -- skip: a number below the next leaf, or above 2 ^ h, is refused and nothing changes; else it is the next leaf
 abbrev pub bad_skip : Signing → ℕ → Bool
 bad_skip s n = nat_lt n s.next || nat_lt (2 ^ s.origin.height) n
 
 abbrev pub skip_answer : Signing → ℕ → Result ℕ Refusal
-skip_answer s n = cond (bad_skip s n) (Err Skip) (Ok n)
+skip_answer s n = if bad_skip s n then Err Skip else Ok n
 
 abbrev pub skip_state : Signing → ℕ → Signing
-skip_state s n = cond (bad_skip s n) s (record { origin = s.origin; root = s.root; next = n; rows = s.rows })
+skip_state s n = if bad_skip s n then s else record { origin = s.origin; root = s.root; next = n; rows = s.rows }
 
 -- the signer's own key, as open reads its key record
 abbrev pub own_key : Hash → Code → Signing → Key

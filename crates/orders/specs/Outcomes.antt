@@ -1,6 +1,6 @@
 -- Orders one after the other: a stamp and a release record each.
 -- Assumes nothing.
-use Rattle.std.specs.Prelude.{ℕ, ◌<◌, ◌≤◌, Bool, cond, ◌&&◌, List, [], ◌∷◌, length, take, drop, Err, Result, nat_le}
+use Rattle.std.specs.Prelude.{ℕ, ◌<◌, ◌≤◌, Bool, if◌then◌else◌, ◌&&◌, List, [], ◌∷◌, length, take, drop, Err, Result, nat_le}
 use Rattle.verifier.specs.Records.{field}
 use Rattle.verifier.specs.declared.refusal.Refusal.{Refusal}
 use Rattle.verifier.specs.declared.refusal.Refusal.TheVariants.{Length}
@@ -11,7 +11,7 @@ whole bytes = nat_le 10 (length bytes) && (nat_le 10 (field bytes 0 4) && nat_le
 
 -- how long the first record is; where it is not whole, the rest is one record
 abbrev pub record_length : List ℕ → ℕ
-record_length bytes = cond (whole bytes) (field bytes 0 4) (length bytes)
+record_length bytes = if whole bytes then field bytes 0 4 else length bytes
 
 abbrev pub first_record : List ℕ → List ℕ
 first_record bytes = take (record_length bytes) bytes

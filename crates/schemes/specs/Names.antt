@@ -1,6 +1,6 @@
 -- What the names of hashes and codes mean, and their numbers.
 -- Assumes nothing.
-use Rattle.std.specs.Prelude.{ℕ, cond, Ok, Err, Result, ◌==◌}
+use Rattle.std.specs.Prelude.{ℕ, if◌then◌else◌, Ok, Err, Result, ◌==◌}
 use Rattle.tree.specs.Meaning.{Hash, Code}
 use Rattle.verifier.specs.Rules.{after}
 use Rattle.verifier.specs.declared.refusal.Refusal.{Refusal}
@@ -24,13 +24,17 @@ code_named Winternitz4 = winternitz4_code
 
 -- the name of the hash with this number
 abbrev pub hash_name : ℕ → Result HashName Refusal
-hash_name n = cond (n == sha.number) (Ok Sha256) (cond (n == aes.number) (Ok Aes128) (cond (n == practice.number) (Ok Practice) (Err Parameters)))
+hash_name n =
+    if n == sha.number then Ok Sha256 else
+    if n == aes.number then Ok Aes128 else
+    if n == practice.number then Ok Practice else Err Parameters
 
 -- the name of the code with this number
 abbrev pub code_name : ℕ → Result CodeName Refusal
 code_name n =
-    cond (n == lamport_diffie_code.number) (Ok LamportDiffie)
-    (cond (n == winternitz2_code.number) (Ok Winternitz2) (cond (n == winternitz4_code.number) (Ok Winternitz4) (Err Parameters)))
+    if n == lamport_diffie_code.number then Ok LamportDiffie else
+    if n == winternitz2_code.number then Ok Winternitz2 else
+    if n == winternitz4_code.number then Ok Winternitz4 else Err Parameters
 
 -- the hash and the code with these numbers
 abbrev pub scheme_numbered : ℕ → ℕ → Result Scheme Refusal

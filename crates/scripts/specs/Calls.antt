@@ -1,6 +1,6 @@
 -- The calls of a key that is begun, and the lines that name them.
 -- Assumes nothing.
-use Rattle.std.specs.Prelude.{ℕ, cond, List, [], length, Some, None, vec_items, codes, Option, ◌==◌}
+use Rattle.std.specs.Prelude.{ℕ, if◌then◌else◌, List, [], length, Some, None, vec_items, codes, Option, ◌==◌}
 use Rattle.std.specs.Option.{option_map}
 use Rattle.std.specs.Str.{bytes_eq}
 use Rattle.scripts.specs.Digits.{number_rule}
@@ -51,18 +51,20 @@ read_skip rest = and_then rest (λ text. option_map skip (number_rule 65535 text
 
 -- a record: its bytes as hex digits, or - for no bytes
 abbrev pub record_rule : List ℕ → Option (List ℕ)
-record_rule text = cond (bytes_eq text (codes "-")) (Some []) (cond (length text == 0) None (hex_bytes text))
+record_rule text =
+    if bytes_eq text (codes "-") then Some [] else
+    if length text == 0 then None else hex_bytes text
 
 abbrev pub read_trace : Option (List ℕ) → Option Said
 read_trace rest = and_then (string_word rest) (λ w. and_then w.rest (λ t. option_map (trace w.word) (record_rule t)))
 
 abbrev pub read_call : List ℕ → Option (List ℕ) → Option Said
 read_call name rest =
-    cond (bytes_eq name (codes "grow")) (alone grow rest)
-    (cond (bytes_eq name (codes "nodes")) (alone nodes rest)
-    (cond (bytes_eq name (codes "finish")) (alone finish rest)
-    (cond (bytes_eq name (codes "key")) (read_key rest)
-    (cond (bytes_eq name (codes "sign")) (read_sign rest)
-    (cond (bytes_eq name (codes "skip")) (read_skip rest)
-    (cond (bytes_eq name (codes "retire")) (alone retire rest)
-    (cond (bytes_eq name (codes "trace")) (read_trace rest) None)))))))
+    if bytes_eq name (codes "grow") then alone grow rest else
+    if bytes_eq name (codes "nodes") then alone nodes rest else
+    if bytes_eq name (codes "finish") then alone finish rest else
+    if bytes_eq name (codes "key") then read_key rest else
+    if bytes_eq name (codes "sign") then read_sign rest else
+    if bytes_eq name (codes "skip") then read_skip rest else
+    if bytes_eq name (codes "retire") then alone retire rest else
+    if bytes_eq name (codes "trace") then read_trace rest else None

@@ -1,14 +1,14 @@
 -- Numbers as decimal digits.
 -- Assumes nothing.
-use Rattle.std.specs.Prelude.{ℕ, ◌+◌, ◌-◌, ◌*◌, cond, ◌&&◌, List, [], ◌∷◌, Some, None, Option, nat_le}
+use Rattle.std.specs.Prelude.{ℕ, ◌+◌, ◌-◌, ◌*◌, if◌then◌else◌, ◌&&◌, List, [], ◌∷◌, Some, None, Option, nat_le}
 
 -- the number that the digits of n, and then those of a text, name
 abbrev pub number_from : ℕ → List ℕ → Option ℕ
 number_from n [] = Some n
-number_from n (c ∷ rest) = cond (nat_le 48 c && nat_le c 57) (number_from (10 * n + (c - 48)) rest) None
+number_from n (c ∷ rest) = if nat_le 48 c && nat_le c 57 then number_from (10 * n + (c - 48)) rest else None
 
 abbrev pub at_most : ℕ → Option ℕ → Option ℕ
-at_most most (Some n) = cond (nat_le n most) (Some n) None
+at_most most (Some n) = if nat_le n most then Some n else None
 at_most most None = None
 
 -- the number that a text names: digits, one at least, and no more than `most`

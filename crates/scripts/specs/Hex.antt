@@ -1,10 +1,12 @@
 -- Bytes as hex digits.
 -- Assumes nothing.
-use Rattle.std.specs.Prelude.{ℕ, ◌+◌, ◌-◌, ◌*◌, cond, ◌&&◌, List, [], ◌∷◌, length, Some, None, Option, ◌==◌, nat_le}
+use Rattle.std.specs.Prelude.{ℕ, ◌+◌, ◌-◌, ◌*◌, if◌then◌else◌, ◌&&◌, List, [], ◌∷◌, length, Some, None, Option, ◌==◌, nat_le}
 
 -- what a digit stands for: 0 to 9 from 48 on, a to f from 97 on
 abbrev pub hex_digit : ℕ → Option ℕ
-hex_digit c = cond (nat_le 48 c && nat_le c 57) (Some (c - 48)) (cond (nat_le 97 c && nat_le c 102) (Some (c - 87)) None)
+hex_digit c =
+    if nat_le 48 c && nat_le c 57 then Some (c - 48) else
+    if nat_le 97 c && nat_le c 102 then Some (c - 87) else None
 
 -- the byte that two digits name
 abbrev pub byte_of : Option ℕ → Option ℕ → Option ℕ
@@ -26,7 +28,7 @@ hex_bytes (a ∷ (b ∷ rest)) = onto (byte_of (hex_digit a) (hex_digit b)) (hex
 
 -- where they are n
 abbrev pub of_length : ℕ → Option (List ℕ) → Option (List ℕ)
-of_length n (Some bs) = cond (length bs == n) (Some bs) None
+of_length n (Some bs) = if length bs == n then Some bs else None
 of_length n None = None
 
 abbrev pub hex_of : ℕ → List ℕ → Option (List ℕ)

@@ -1,6 +1,6 @@
 -- What a line of a script says.
 -- Assumes nothing.
-use Rattle.std.specs.Prelude.{ℕ, cond, ◌||◌, List, length, Some, None, codes, Option, ◌==◌, nat_lt, slice_index}
+use Rattle.std.specs.Prelude.{ℕ, if◌then◌else◌, ◌||◌, List, length, Some, None, codes, Option, ◌==◌, nat_lt, slice_index}
 use Rattle.std.specs.Option.{option_map}
 use Rattle.std.specs.Str.{bytes_eq}
 use Rattle.scripts.specs.Calls.{Said, said, read_call}
@@ -51,9 +51,11 @@ call_line None = no_call
 -- a line of words: begin, or another call
 abbrev pub words_line : List ℕ → Meant
 words_line text =
-    cond (bytes_eq (word_of text) (codes "begin")) (begin_line (read_begin (after_word text))) (call_line (read_call (word_of text) (after_word text)))
+    if bytes_eq (word_of text) (codes "begin") then begin_line (read_begin (after_word text))
+    else call_line (read_call (word_of text) (after_word text))
 
 -- nothing to answer where it is empty or begins with #; no call where it is longer than 65,536 bytes
 abbrev pub line_rule : List ℕ → Meant
 line_rule text =
-    cond (length text == 0 || slice_index text 0 == 35) nothing (cond (nat_lt 65536 (length text)) no_call (words_line text))
+    if length text == 0 || slice_index text 0 == 35 then nothing else
+    if nat_lt 65536 (length text) then no_call else words_line text

@@ -1,6 +1,6 @@
 -- Words with single spaces between them.
 -- Assumes nothing.
-use Rattle.std.specs.Prelude.{ℕ, cond, List, [], ◌∷◌, Some, None, Option, ◌==◌}
+use Rattle.std.specs.Prelude.{ℕ, if◌then◌else◌, List, [], ◌∷◌, Some, None, Option, ◌==◌}
 use Rattle.std.specs.Option.{option_map}
 use Rattle.scripts.specs.Digits.{number_rule}
 use Rattle.scripts.specs.Hex.{hex_of}
@@ -9,12 +9,12 @@ use Rattle.scripts.specs.declared.words.Words.{Words}
 -- what stands before the first space
 abbrev pub word_of : List ℕ → List ℕ
 word_of [] = []
-word_of (c ∷ rest) = cond (c == 32) [] (c ∷ word_of rest)
+word_of (c ∷ rest) = if c == 32 then [] else c ∷ word_of rest
 
 -- what stands after it
 abbrev pub after_word : List ℕ → Option (List ℕ)
 after_word [] = None
-after_word (c ∷ rest) = cond (c == 32) (Some rest) (after_word rest)
+after_word (c ∷ rest) = if c == 32 then Some rest else after_word rest
 
 abbrev pub and_then : {A B : Type 0} → Option A → (A → Option B) → Option B
 and_then (Some x) next = next x

@@ -1,6 +1,6 @@
 -- Chains, nodes and the way from a leaf to the root.
 -- Assumes nothing.
-use Rattle.std.specs.Prelude.{ℕ, zero, suc, ◌+◌, ◌-◌, ◌*◌, ◌/◌, ◌%◌, cond, List, ◌==◌, nat_lt}
+use Rattle.std.specs.Prelude.{ℕ, zero, suc, ◌+◌, ◌-◌, ◌*◌, ◌/◌, ◌%◌, if◌then◌else◌, List, ◌==◌, nat_lt}
 use Rattle.strings.specs.Strings.{xor, string_at, zero_string}
 
 -- step, applied e times
@@ -21,7 +21,7 @@ node parent bottom a (suc d) b = parent a (node parent bottom (suc a) d (2 * b))
 
 -- the parent at level a of the node s at position b, and its sibling: left of it where b is odd
 abbrev pub above : (ℕ → List ℕ → List ℕ → List ℕ) → ℕ → ℕ → List ℕ → List ℕ → List ℕ
-above parent a b s sibling = cond (b % 2 == 0) (parent a s sibling) (parent a sibling s)
+above parent a b s sibling = if b % 2 == 0 then parent a s sibling else parent a sibling s
 
 -- from the node s at level a, position b up to the root; sibling c is the sibling at level c
 unfoldable pub climb : (ℕ → List ℕ → List ℕ → List ℕ) → (ℕ → List ℕ) → ℕ → ℕ → List ℕ → List ℕ
@@ -31,4 +31,4 @@ climb parent sibling (suc a) b s = climb parent sibling a (b / 2) (above parent 
 -- the one-time string at place k of a leaf with `count` chains, of which `shown` gives the string at the height of `digit`:
 -- raised to the top digit, and zero past the last chain
 abbrev pub one_time : (List ℕ → List ℕ) → ℕ → ℕ → (ℕ → ℕ) → (ℕ → List ℕ) → ℕ → List ℕ
-one_time step count top digit shown k = cond (nat_lt k count) (raise step (top - digit k) (shown k)) zero_string
+one_time step count top digit shown k = if nat_lt k count then raise step (top - digit k) (shown k) else zero_string

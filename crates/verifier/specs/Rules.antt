@@ -1,6 +1,6 @@
 -- What open and verify answer, on all inputs: the first refusal that meets the input, in this order, or the value.
 -- Assumes nothing.
-use Rattle.std.specs.Prelude.{ℕ, ◌^◌, Bool, false, cond, not, ◌||◌, List, length, drop, Ok, Err, Result, ◌==◌, nat_le, nat_lt}
+use Rattle.std.specs.Prelude.{ℕ, ◌^◌, Bool, false, if◌then◌else◌, not, ◌||◌, List, length, drop, Ok, Err, Result, ◌==◌, nat_le, nat_lt}
 use Rattle.std.specs.Str.{bytes_eq}
 use Rattle.tree.specs.Meaning.{Hash, Code}
 use Rattle.tree.specs.Rebuilt.{rebuilt}
@@ -11,7 +11,7 @@ use Rattle.verifier.specs.declared.refusal.Refusal.TheVariants.{Length, Kind, Pa
 
 -- where the test holds the answer is this refusal, else what follows
 abbrev pub refuse : {A : Type 0} → Bool → Refusal → Result A Refusal → Result A Refusal
-refuse test refusal rest = cond test (Err refusal) rest
+refuse test refusal rest = if test then Err refusal else rest
 
 -- an answer, with its value seen through f
 abbrev pub seen : {A B : Type 0} → (A → B) → Result A Refusal → Result B Refusal

@@ -22,7 +22,8 @@ fn held_nodes<H: TreeHash, C: Code>(
 {
     let mut nodes = Vec::new(heap);
     for level in 0..9u8 {
-        if let Some((position, node)) = maker.held(level) {
+        if let Some(held) = maker.held(level) {
+            let (position, node) = held;
             nodes.push(Node {
                 level,
                 position,
