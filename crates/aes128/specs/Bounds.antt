@@ -1,27 +1,18 @@
 -- What the cipher and its hash give is a string of 16 bytes.
 -- Assumes nothing.
-use Rattle.std.specs.Prelude.{ℕ, zero, suc, ◌+◌, ◌-◌, ◌*◌, ◌/◌, ◌%◌, ◌^◌, ◌<◌, true, false, cond, List, [], ◌∷◌, map, ◌==◌, slice_index, refl}
+use Rattle.std.specs.Prelude.{ℕ, zero, suc, ◌+◌, ◌-◌, ◌*◌, ◌/◌, ◌%◌, ◌^◌, ◌<◌, true, false, cond, List, map, ◌==◌, slice_index, refl}
 use Rattle.std.proofs.Common.{mod-lt, arith}
 use Rattle.std.proofs.lemmas.Nat.{xor_lt}
 use Rattle.std.specs.List.{range_with_len}
 use Rattle.strings.specs.Strings.{Bytes, Str, xor}
-use Rattle.strings.proofs.Laws.{xor_bytes, xor-str}
+use Rattle.strings.proofs.Laws.{bytes-map, byte-below, xor_bytes, xor-str}
 use Rattle.aes128.specs.Field.{times_x, power_of_x, inverse, bit, from_bits, affine_bit, sub}
 use Rattle.aes128.specs.State.{at, state, sub_bytes, shift_rows, final_round}
 use Rattle.aes128.specs.Schedule.{rot_word, sub_word, rcon, temp, key_word, key_of_round}
 use Rattle.aes128.specs.Cipher.{rounds, aes128_of, aes_step, aes_pair}
 
-each : (f : ℕ → ℕ) (js : List ℕ) → ((j : ℕ) → f j < 256) → Bytes (map f js)
-each f [] h = tt
-each f (j ∷ js) h = (h j, each f js h)
-
-byte : (s : List ℕ) (j : ℕ) → Bytes s → slice_index s j < 256
-byte [] j b = omega arith
-byte (x ∷ s) zero b = b.0
-byte (x ∷ s) (suc j) b = byte s j b.1
-
 state-str : (f : ℕ → ℕ → ℕ) → ((r c : ℕ) → f r c < 256) → Str (state f)
-state-str f h = (refl, each (λ i. f (i % 4) (i / 4)) (range_with_len 0 16) (λ i. h (i % 4) (i / 4)))
+state-str f h = (refl, bytes-map (λ i. f (i % 4) (i / 4)) (range_with_len 0 16) (λ i. h (i % 4) (i / 4)))
 
 times_x-below : (a : ℕ) → a < 256 → times_x a < 256
 times_x-below a h = xor_lt 8 ((a * 2) % 256) ((a / 128) * 27) (mod-lt (a * 2) (omega arith)) (omega arith)
@@ -55,29 +46,29 @@ temp-bytes i w b =
     let zeros : 0 < 256 = omega arith in
     let constant : Bytes (rcon (i / 4)) = (power_below (i / 4 - 1), (zeros, (zeros, (zeros, tt)))) in
     elim (i % 4 == 0) as (λ t. Bytes (cond t (xor (sub_word (rot_word w)) (rcon (i / 4))) w)) [
-      | true ↦ xor_bytes (sub_word (rot_word w)) (rcon (i / 4)) (each _ (range_with_len 0 4) (λ r. sub-below (slice_index (rot_word w) r))) constant
+      | true ↦ xor_bytes (sub_word (rot_word w)) (rcon (i / 4)) (bytes-map _ (range_with_len 0 4) (λ r. sub-below (slice_index (rot_word w) r))) constant
       | false ↦ b
     ]
 
 key_word-bytes : (key : List ℕ) → Bytes key → (i : ℕ) → Bytes (key_word key i)
 unfolding key_word
-key_word-bytes key b zero = each (λ r. at key r 0) (range_with_len 0 4) (λ r. byte key (4 * 0 + r) b)
-key_word-bytes key b (suc zero) = each (λ r. at key r 1) (range_with_len 0 4) (λ r. byte key (4 * 1 + r) b)
-key_word-bytes key b (suc (suc zero)) = each (λ r. at key r 2) (range_with_len 0 4) (λ r. byte key (4 * 2 + r) b)
-key_word-bytes key b (suc (suc (suc zero))) = each (λ r. at key r 3) (range_with_len 0 4) (λ r. byte key (4 * 3 + r) b)
+key_word-bytes key b zero = bytes-map (λ r. at key r 0) (range_with_len 0 4) (λ r. byte-below key (4 * 0 + r) b)
+key_word-bytes key b (suc zero) = bytes-map (λ r. at key r 1) (range_with_len 0 4) (λ r. byte-below key (4 * 1 + r) b)
+key_word-bytes key b (suc (suc zero)) = bytes-map (λ r. at key r 2) (range_with_len 0 4) (λ r. byte-below key (4 * 2 + r) b)
+key_word-bytes key b (suc (suc (suc zero))) = bytes-map (λ r. at key r 3) (range_with_len 0 4) (λ r. byte-below key (4 * 3 + r) b)
 key_word-bytes key b (suc (suc (suc (suc i)))) =
     xor_bytes (key_word key i) _ (key_word-bytes key b i) (temp-bytes (i + 4) _ (key_word-bytes key b (suc (suc (suc i)))))
 
 key_of_round-str : (key : List ℕ) (n : ℕ) → Bytes key → Str (key_of_round key n)
 unfolding key_of_round
-key_of_round-str key n b = state-str _ (λ r c. byte (key_word key (4 * n + c)) r (key_word-bytes key b (4 * n + c)))
+key_of_round-str key n b = state-str _ (λ r c. byte-below (key_word key (4 * n + c)) r (key_word-bytes key b (4 * n + c)))
 
 aes-str : (k s : List ℕ) → Bytes k → Str (aes128_of k s)
 unfolding aes128_of final_round
 aes-str k s b =
     let last = rounds k s 9 in
     let substituted = state-str (λ r c. sub (at last r c)) (λ r c. sub-below (at last r c)) in
-    let shifted = state-str (λ r c. at (sub_bytes last) r ((c + r) % 4)) (λ r c. byte (sub_bytes last) (4 * ((c + r) % 4) + r) substituted.1) in
+    let shifted = state-str (λ r c. at (sub_bytes last) r ((c + r) % 4)) (λ r c. byte-below (sub_bytes last) (4 * ((c + r) % 4) + r) substituted.1) in
     xor-str (shift_rows (sub_bytes last)) (key_of_round k 10) shifted (key_of_round-str k 10 b)
 
 pub step-str : (k s : List ℕ) → Str k → Str s → Str (aes_step k s)

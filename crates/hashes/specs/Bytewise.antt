@@ -1,23 +1,15 @@
 -- Strings that are given byte by byte.
 -- Assumes nothing.
-use Rattle.std.specs.Prelude.{ℕ, zero, suc, ◌+◌, ◌/◌, ◌%◌, ◌<◌, List, [], ◌∷◌, map, slice_index, refl}
+use Rattle.std.specs.Prelude.{ℕ, ◌+◌, ◌/◌, ◌%◌, ◌<◌, List, slice_index, refl}
 use Rattle.std.proofs.Common.{mod-lt, arith}
 use Rattle.std.proofs.lemmas.Nat.{xor_lt}
 use Rattle.std.specs.List.{range_with_len}
-use Rattle.strings.specs.Strings.{Bytes, Str}
+use Rattle.strings.specs.Strings.{Str}
+use Rattle.strings.proofs.Laws.{bytes-map, byte-below}
 use Rattle.hashes.specs.Practice.{bytewise, step_byte, pair_byte, practice_step, practice_pair}
 
-byte-below : (s : List ℕ) (j : ℕ) → Bytes s → slice_index s j < 256
-byte-below [] j b = omega arith
-byte-below (x ∷ s) zero b = b.0
-byte-below (x ∷ s) (suc j) b = byte-below s j b.1
-
-each : (f : ℕ → ℕ) (js : List ℕ) → ((j : ℕ) → f j < 256) → Bytes (map f js)
-each f [] h = tt
-each f (j ∷ js) h = (h j, each f js h)
-
 bytewise-str : (f : ℕ → ℕ) → ((j : ℕ) → f j < 256) → Str (bytewise f)
-bytewise-str f h = (refl, each f (range_with_len 0 16) h)
+bytewise-str f h = (refl, bytes-map f (range_with_len 0 16) h)
 
 pub step-str : (k s : List ℕ) → Str k → Str s → Str (practice_step k s)
 step-str k s a b =

@@ -8,7 +8,7 @@ use Rattle.std.specs.List.{range_with_len}
 use Rattle.std.specs.Simd.{first_chunks}
 use Rattle.std.proofs.lemmas.List.Edits.{fill_by_more}
 use Rattle.std.proofs.lemmas.List.{places, same_lists, take-append-drop, length-append, take_at, drop_at, drop-drop, same_from_push, drop-replicate, take-replicate}
-use Rattle.std.proofs.ByRecursion.{All-take, All-drop, All-map, All-from_get_or}
+use Rattle.std.proofs.ByRecursion.{All-take, All-drop, All-from_get_or}
 use Rattle.std.proofs.lemmas.List.FromFn.{length-map-range_with_len, map-range_with_len_more, fill_by_all}
 use Rattle.strings.specs.Strings.{Bytes, Str, zero_string, xor, little_endian, numeral, string_at, put_string}
 
@@ -40,8 +40,18 @@ xor_bytes (x ∷ s) (y ∷ m) a b = (xor_lt 8 x y a.0 b.0, xor_bytes s m a.1 b.1
 pub xor-str : (s m : List ℕ) → Str s → Str m → Str (xor s m)
 xor-str s m a b = (length-xor s m ∙ a.0, xor_bytes s m a.1 b.1)
 
+-- the bytes of a list that is given by f, and a byte at any place: 0 past the end
+pub bytes-map : (f : ℕ → ℕ) (js : List ℕ) → ((j : ℕ) → f j < 256) → Bytes (map f js)
+bytes-map f [] small = tt
+bytes-map f (j ∷ js) small = (small j, bytes-map f js small)
+
+pub byte-below : (s : List ℕ) (j : ℕ) → Bytes s → get_or s j 0 < 256
+byte-below [] j b = omega arith
+byte-below (x ∷ s) zero b = b.0
+byte-below (x ∷ s) (suc j) b = byte-below s j b.1
+
 pub bytes-little_endian : (k n : ℕ) → Bytes (little_endian k n)
-bytes-little_endian k n = All-map (λ x. x < 256) (λ j. n / 256 ^ j % 256) (range_with_len 0 k) (All-from_get_or (λ j. n / 256 ^ j % 256 < 256) (range_with_len 0 k) 0 (λ i h. omega arith))
+bytes-little_endian k n = bytes-map (λ j. n / 256 ^ j % 256) (range_with_len 0 k) (λ j. omega arith)
 
 pub length-little_endian : (k n : ℕ) → length (little_endian k n) ≡ k
 length-little_endian k n = length-map-range_with_len (λ j. n / 256 ^ j % 256) 0 k
