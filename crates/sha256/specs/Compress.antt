@@ -1,7 +1,7 @@
 -- The message schedule and the compression function of SHA-256.
 -- Assumes nothing.
 use Rattle.std.specs.Prelude.{ℕ, zero, suc, ◌+◌, ◌-◌, ◌*◌, ◌^◌, List, [], ◌∷◌, ◌++◌, map, slice_index, slice_index_or}
-use Rattle.std.specs.List.{range_with_len}
+use Rattle.std.specs.List.{range_with_len, fold, zip}
 use Rattle.sha256.specs.declared.state.State.{State}
 use Rattle.sha256.specs.Constants.{round_words}
 use Rattle.sha256.specs.Functions.{◌⊞◌, ch, maj, big_sigma0, big_sigma1, small_sigma0, small_sigma1}
@@ -45,6 +45,10 @@ round_at s t w = round s (slice_index round_words t) (slice_index w t)
 unfoldable pub rounds : ℕ → ℕ → State → List ℕ → State
 rounds zero t s w = s
 rounds (suc n) t s w = round_at (rounds n t s w) (t + n) w
+
+-- the rounds of these constants and words, one after another
+abbrev pub rounds_of : State → List ℕ → List ℕ → State
+rounds_of s constants words = fold (λ t p. round t p.0 p.1) s (zip constants words)
 
 -- word by word
 abbrev pub added : State → State → State

@@ -1,5 +1,5 @@
 // The compression function: a hash value and a block to the next hash value.
-ghost use Rattle.std.specs.Prelude.{◌≡◌, ◌+◌, ◌≤◌};
+ghost use Rattle.std.specs.Prelude.{◌≡◌};
 ghost use Rattle.sha256.specs.Compress as spec;
 
 use crate::constants::ROUND_WORDS;
@@ -30,27 +30,26 @@ fn round(s: State, k: u32, w: u32) -> State
     }
 }
 
-// Four rounds, from round number `t` on: a loop so short is unrolled, and the eight words then move less.
-fn four_rounds(start: State, schedule: &[u32; 64], t: usize) -> State
-    requires { t + 4 ≤ 64 }
-    ensures { result ≡ spec.rounds 4 t start schedule.now }
+// Four rounds, of these constants and words: so few are unrolled, and the eight words then move less.
+fn four_rounds(start: State, constants: &[u32; 4], words: &[u32; 4]) -> State
+    ensures { result ≡ spec.rounds_of start constants.now words.now }
 {
-    let mut s = start;
-    for j in 0..4usize {
-        s = round(s, ROUND_WORDS[t + j], schedule[t + j]);
-    }
-    s
+    constants
+        .iter()
+        .zip(words)
+        .fold(start, |s, (k, w)| round(s, *k, *w))
 }
 
-// All rounds.
+// All rounds, four by four.
 fn rounds(start: State, schedule: &[u32; 64]) -> State
     ensures { result ≡ spec.rounds 64 0 start schedule.now }
 {
-    let mut s = start;
-    for i in 0..16usize {
-        s = four_rounds(s, schedule, 4 * i);
-    }
-    s
+    let (constants, _) = ROUND_WORDS.as_chunks::<4>();
+    let (words, _) = schedule.as_chunks::<4>();
+    constants
+        .iter()
+        .zip(words)
+        .fold(start, |s, (k, w)| four_rounds(s, k, w))
 }
 
 // Word by word, modulo 2^32.
