@@ -100,7 +100,7 @@ impl Task for Checking<'_> {
 fn unknown(heap: Global, key: &[u8]) -> Report
     ensures { Unknown (header_rule 1 key.now) result }
 {
-    match body_of(key, RecordKind::Key.number()) {
+    match body_of(key, RecordKind::Key) {
         Ok(_) => refused_key(heap, Refusal::Parameters),
         Err(refusal) => refused_key(heap, refusal),
     }

@@ -21,9 +21,9 @@ impl RecordKind {
     }
 }
 
-// The body of a record of the kind with this number: what follows its length and kind.
-pub fn body_of(bytes: &[u8], kind: u16) -> Result<&[u8], Refusal>
-    ensures { seen (λ x. x.now) result ≡ header_rule kind bytes.now }
+// The body of a record of this kind: what follows its length and kind.
+pub fn body_of(bytes: &[u8], kind: RecordKind) -> Result<&[u8], Refusal>
+    ensures { seen (λ x. x.now) result ≡ header_rule (kind_number kind) bytes.now }
 {
     let [a, b, c, d, e, f, body @ ..] = bytes else {
         return Err(Refusal::Length);
@@ -32,7 +32,7 @@ pub fn body_of(bytes: &[u8], kind: u16) -> Result<&[u8], Refusal>
     if bytes.len() < 10 || length as usize != bytes.len() {
         return Err(Refusal::Length);
     }
-    if u16::from_le_bytes([*e, *f]) != kind {
+    if u16::from_le_bytes([*e, *f]) != kind.number() {
         return Err(Refusal::Kind);
     }
     Ok(body)

@@ -15,7 +15,7 @@ pub fn open<H: ChainHash, C: Code>(bytes: &[u8]) -> Result<OpenedKey<'_>, Refusa
     ensures answer { seen key_of result ≡ open_rule H.ChainHash.NUMBER C.Code.NUMBER C.Code.LEVELS bytes.now }
     ensures reads { ReadsKeys H.ChainHash.NUMBER C.Code.NUMBER C.Code.LEVELS bytes.now (seen key_of result) }
 {
-    let body = body_of(bytes, RecordKind::Key.number())?;
+    let body = body_of(bytes, RecordKind::Key)?;
     if body[0] != H::NUMBER || body[1] != C::NUMBER {
         return Err(Refusal::Parameters);
     }

@@ -46,7 +46,7 @@ pub fn read_release<'a, H: ChainHash, C: Code>(
     ensures answer { seen shown_by result ≡ read_rule H.ChainHash.NUMBER (code_of C.Code) (key_of key.now) bytes.now }
     ensures reads { suited H.ChainHash.NUMBER C.Code.NUMBER C.Code.LEVELS (key_of key.now) ≡ true → ReadsReleases C.Code.COUNT key.now.height bytes.now (seen shown_by result) }
 {
-    let body = body_of(bytes, RecordKind::Release.number())?;
+    let body = body_of(bytes, RecordKind::Release)?;
     if !suits::<H, C>(key) {
         return Err(Refusal::Parameters);
     }
@@ -58,6 +58,6 @@ pub fn read_own<C: Code>(height: u8, bytes: &[u8]) -> Result<Release<'_>, Refusa
     requires { height ≤ 8 }
     ensures { seen shown_by result ≡ own_rule C.Code.COUNT height bytes.now }
 {
-    let body = body_of(bytes, RecordKind::Release.number())?;
+    let body = body_of(bytes, RecordKind::Release)?;
     parts_of::<C>(height, body)
 }

@@ -12,7 +12,7 @@ use Rattle.verifier.proofs.release.read_release.Goals.{After-parts_of}
 told : (g : given.Over) (c : After-parts_of g) → seen shown_by c.parts_of.result ≡ read_rule g.H.ChainHash.NUMBER (code_of g.C.Code) (key_of c.args.key.now) c.args.bytes.now
 told g c =
     let bytes = c.args.bytes.now in
-    let read = read-parts g.H.ChainHash.NUMBER (code_of g.C.Code) (key_of c.args.key.now) bytes c.in_ok-body.body.now (rw c.number.ensures at c.in_ok-body.ensures) c.if-not-suits.ensures.answer in
+    let read = read-parts g.H.ChainHash.NUMBER (code_of g.C.Code) (key_of c.args.key.now) bytes c.in_ok-body.body.now c.in_ok-body.ensures c.if-not-suits.ensures.answer in
     c.parts_of.ensures bytes read.0 ∙ read.1
 
 pub returns-in_err-body-clause-reads : goal.returns-in_err-body-clause-reads
