@@ -1,5 +1,5 @@
 // Reading a release record.
-ghost use Rattle.std.specs.Prelude.{◌≡◌, ℕ, ◌≤◌, true, List, drop};
+ghost use Rattle.std.specs.Prelude.{◌≡◌, ℕ, true, List, drop};
 ghost use Rattle.tree.specs.Meaning.{code_of};
 ghost use Rattle.verifier.specs.Reads.{ReadsReleases};
 ghost use Rattle.verifier.specs.Rules.{seen, suited, parts_rule, read_rule, own_rule};
@@ -22,7 +22,6 @@ pub struct Release<'a> {
 
 // The leaf number and the strings in the body of a release record under a key of a height.
 fn parts_of<C: Code>(height: u8, body: &[u8]) -> Result<Release<'_>, Refusal>
-    requires { height ≤ 8 }
     ensures { (bytes : List ℕ) → body.now ≡ drop 6 bytes → seen shown_by result ≡ parts_rule C.Code.COUNT height bytes }
 {
     let [low, high, row @ ..] = body else {
@@ -32,7 +31,8 @@ fn parts_of<C: Code>(height: u8, body: &[u8]) -> Result<Release<'_>, Refusal>
         return Err(Refusal::Layout);
     }
     let leaf = u16::from_le_bytes([*low, *high]);
-    if leaf >= 1 << height {
+    // Where the height is 16 or more, every number is a leaf's.
+    if height < 16 && leaf >= 1 << height {
         return Err(Refusal::Leaf);
     }
     Ok(Release { leaf, row })
@@ -55,7 +55,6 @@ pub fn read_release<'a, H: ChainHash, C: Code>(
 
 // Reads a release record as it lies in `bytes`, for its own signer, whose key has this height.
 pub fn read_own<C: Code>(height: u8, bytes: &[u8]) -> Result<Release<'_>, Refusal>
-    requires { height ≤ 8 }
     ensures { seen shown_by result ≡ own_rule C.Code.COUNT height bytes.now }
 {
     let body = body_of(bytes, RecordKind::Release)?;
