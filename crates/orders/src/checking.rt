@@ -16,7 +16,7 @@ use hashes::TreeHash;
 use schemes::{Scheme, Task};
 use std::alloc::{AllocError, Global};
 use strings::byte_at;
-use verifier::{OpenedKey, RecordKind, Refusal, body_of, open, verify};
+use verifier::{OpenedKey, RecordKind, Refusal, body_of, layout, open, verify};
 
 // The outcome of the first order in `bytes`, and the bytes of the others.
 fn check_order<'a, H: TreeHash, C: Code>(
@@ -111,7 +111,9 @@ fn check_named(heap: Global, key: &[u8], orders: &[u8]) -> Result<Report, AllocE
     ensures report { IfOk result (λ report. CheckedBy (scheme_numbered (hash_number_of key.now) (code_number_of key.now)) key.now orders.now report) }
     ensures lacking { OnErr result (0 < length orders.now) }
 {
-    match Scheme::numbered(byte_at(key, 6), byte_at(key, 7)) {
+    let hash = byte_at(key, layout::HASH_NUMBER);
+    let code = byte_at(key, layout::CODE_NUMBER);
+    match Scheme::numbered(hash, code) {
         Ok(scheme) => scheme.run(&mut Checking { heap, key, orders }),
         Err(_) => Ok(unknown(heap, key)),
     }

@@ -10,7 +10,7 @@ use codes::Code;
 use growth::Tree;
 use hashes::TreeHash;
 use strings::put;
-use verifier::{RecordKind, release_length};
+use verifier::{RecordKind, layout, release_length};
 
 // Writes what every record begins with: its length and its kind. The bytes after them stay.
 fn write_header(out: &mut [u8], kind: RecordKind, size: usize)
@@ -37,13 +37,13 @@ pub(crate) fn write_key(
     requires short { 42 + length masks.now < 2 ^ 32 }
     ensures { out.new ≡ framed 1 (names.now ++ (hash_key.now ++ (masks.now ++ root.now))) ++ drop (42 + length masks.now) out.old }
 {
-    let size = 42 + masks.len();
+    let size = layout::BESIDE_MASKS + masks.len();
     write_header(out, RecordKind::Key, size);
     // Copies, so that what is written cannot lie under what is read: else the compiler tests for that each time.
-    put(out, 6, &{ *names });
-    put(out, 10, &{ *hash_key });
-    put(out, 26, masks);
-    put(out, size - 16, &{ *root });
+    put(out, layout::BODY, &{ *names });
+    put(out, layout::HASH_KEY, &{ *hash_key });
+    put(out, layout::MASKS, masks);
+    put(out, layout::MASKS + masks.len(), &{ *root });
 }
 
 // Writes the strings of a release of a leaf from byte 8 of the output on; the bytes before and after them stay. The work
@@ -61,7 +61,8 @@ fn write_shown<H: TreeHash, C: Code>(
     ensures long { length (shown_row (hash_of H.ChainHash H.TreeHash.own) (code_of C.Code) tree.now.origin.now leaf stamp.now) ≡ 16 * (C.Code.COUNT + tree.now.origin.now.height) }
 {
     for k in 0..C::COUNT + tree.origin.height as usize {
-        put(out, 8 + 16 * k, &tree.shown_string(leaf, stamp, k, work));
+        let string = tree.shown_string(leaf, stamp, k, work);
+        put(out, layout::ROW + 16 * k, &string);
     }
 }
 
@@ -79,6 +80,6 @@ pub(crate) fn write_release<H: TreeHash, C: Code>(
 {
     let size = release_length::<C>(tree.origin.height);
     write_header(out, RecordKind::Release, size);
-    put(out, 6, &leaf.to_le_bytes());
+    put(out, layout::BODY, &leaf.to_le_bytes());
     write_shown(tree, leaf, stamp, out, work);
 }

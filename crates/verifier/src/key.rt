@@ -2,6 +2,8 @@
 ghost use Rattle.std.specs.Prelude.{◌≡◌, ◌+◌, ◌*◌, ◌≤◌, length};
 ghost use Rattle.verifier.specs.Records.{hash_key_of, masks_of, root_of};
 
+use crate::layout;
+
 // Only `open` makes one.
 #[derive(Clone, Copy)]
 pub struct OpenedKey<'a> {
@@ -22,14 +24,14 @@ impl<'a> OpenedKey<'a> {
     pub(crate) fn hash_key(&self) -> &'a [u8; 16]
         ensures { result.now ≡ hash_key_of self.now.bytes.now }
     {
-        self.bytes[10..].first_chunk().unwrap()
+        self.bytes[layout::HASH_KEY..].first_chunk().unwrap()
     }
 
     // The left and right mask of each level, from the root down.
     pub(crate) fn masks(&self) -> &'a [u8]
         ensures { result.now ≡ masks_of self.now.bytes.now }
     {
-        &self.bytes[26..self.bytes.len() - 16]
+        &self.bytes[layout::MASKS..][..self.bytes.len() - layout::BESIDE_MASKS]
     }
 
     pub(crate) fn root(&self) -> &'a [u8; 16]

@@ -3,6 +3,7 @@
 
 mod header;
 mod key;
+pub mod layout;
 mod lengths;
 mod opening;
 mod refusal;

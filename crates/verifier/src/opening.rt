@@ -6,7 +6,7 @@ ghost use Rattle.verifier.specs.Views.{key_of};
 
 use crate::header::body_of;
 use crate::lengths::key_length;
-use crate::{OpenedKey, RecordKind, Refusal};
+use crate::{OpenedKey, RecordKind, Refusal, layout};
 use codes::Code;
 use hashes::ChainHash;
 
@@ -15,12 +15,12 @@ pub fn open<H: ChainHash, C: Code>(bytes: &[u8]) -> Result<OpenedKey<'_>, Refusa
     ensures answer { seen key_of result ≡ open_rule H.ChainHash.NUMBER C.Code.NUMBER C.Code.LEVELS bytes.now }
     ensures reads { ReadsKeys H.ChainHash.NUMBER C.Code.NUMBER C.Code.LEVELS bytes.now (seen key_of result) }
 {
-    let body = body_of(bytes, RecordKind::Key)?;
-    if body[0] != H::NUMBER || body[1] != C::NUMBER {
+    body_of(bytes, RecordKind::Key)?;
+    if bytes[layout::HASH_NUMBER] != H::NUMBER || bytes[layout::CODE_NUMBER] != C::NUMBER {
         return Err(Refusal::Parameters);
     }
-    let height = body[2];
-    if !(1..=8).contains(&height) || body[3] != 0 {
+    let height = bytes[layout::HEIGHT];
+    if !(1..=8).contains(&height) || bytes[layout::SPARE] != 0 {
         return Err(Refusal::Height);
     }
     if bytes.len() != key_length::<C>(height) {

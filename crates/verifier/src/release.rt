@@ -8,7 +8,7 @@ ghost use Rattle.verifier.specs.Views.{key_of, shown_by};
 use crate::header::body_of;
 use crate::lengths::release_length;
 use crate::opening::suits;
-use crate::{OpenedKey, RecordKind, Refusal};
+use crate::{OpenedKey, RecordKind, Refusal, layout};
 use codes::Code;
 use hashes::ChainHash;
 
@@ -27,7 +27,7 @@ fn parts_of<C: Code>(height: u8, body: &[u8]) -> Result<Release<'_>, Refusal>
     let [low, high, row @ ..] = body else {
         return Err(Refusal::Layout);
     };
-    if 8 + row.len() != release_length::<C>(height) {
+    if layout::ROW + row.len() != release_length::<C>(height) {
         return Err(Refusal::Layout);
     }
     let leaf = u16::from_le_bytes([*low, *high]);

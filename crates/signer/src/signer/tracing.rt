@@ -16,7 +16,7 @@ use growth::Tree;
 use hashes::TreeHash;
 use std::ops::Deref;
 use strings::same;
-use verifier::{Refusal, key_length, read_own};
+use verifier::{Refusal, key_length, layout, read_own};
 
 impl<H: TreeHash, C: Code> Signer<H, C> {
     // Writes the key record at the start of the output, and answers its length. Refuses an output that is shorter; it stays.
@@ -35,7 +35,7 @@ impl<H: TreeHash, C: Code> Signer<H, C> {
             out,
             &names,
             &self.origin.hash_key,
-            &self.origin.masks[0..size - 42],
+            &self.origin.masks[..size - layout::BESIDE_MASKS],
             &self.root,
         );
         Ok(size)

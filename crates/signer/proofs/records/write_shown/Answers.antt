@@ -11,7 +11,7 @@ loop-k-preserved g c =
     let is = c.COUNT.ensures in
     let room = c.requires.room in
     let more = c.loop-k-test.true in
-    shown-more shown c.args.out.now c.loop-k.out c.put.new.bytes c.shown_string.result c.loop-k.k c.loop-k.invariant (omega arith) c.shown_string.ensures (omega arith) (c.put.ensures.front, c.put.ensures.back)
+    shown-more shown c.args.out.now c.loop-k.out c.put.new.bytes c.shown_string-string.result c.loop-k.k c.loop-k.invariant (omega arith) c.shown_string-string.ensures (omega arith) (c.put.ensures.front, c.put.ensures.back)
 
 pub returns : goal.returns
 unfolding shown_row

@@ -38,7 +38,7 @@ returns g c =
     let tall = c.args.self.now.tall in
     let long = le-ltb (length out) (key_size code s) (omega (arith, c.if-out-size.false)) in
     let masked : length s.origin.masks ≡ 512 = c.args.self.now.sized.1 in
-    let cut = c.key_length-size.result - 42 - 0 in
+    let cut = c.key_length-size.result - 42 in
     let wide : cut ≡ 32 * (s.origin.height + code.levels) = omega arith in
     let end : 42 + length (take cut s.origin.masks) ≡ key_size code s = ap (λ n. 42 + n) (length-take-le cut s.origin.masks (omega arith)) ∙ omega arith in
     let answer = ap {B = Result ℕ Refusal} Ok is ∙ sym (cond-false _ (Err Output) _ long) in
