@@ -1,16 +1,16 @@
 -- What is held after a leaf is added to what is held before.
 -- Assumes nothing.
 use Rattle.std.proofs.Common.{◌≡◌, ℕ, zero, suc, ◌+◌, ◌-◌, ◌*◌, ◌/◌, ◌%◌, ◌^◌, ◌<◌, ◌≤◌, List, length, sym, refl, ap, ◌∙◌, subst, ⊎_elim, arith}
-use Rattle.std.proofs.lemmas.Bool.{cases_eq, cases_lt, cond-false, and_left, lt-leb}
+use Rattle.std.proofs.lemmas.Bool.{cases_eq, cases_lt}
 use Rattle.strings.specs.Strings.{string_at, put_string, zero_string}
 use Rattle.strings.proofs.Laws.{length-put_string, at-put-same, at-put-other}
 use Rattle.tree.specs.Meaning.{Hash, Code}
-use Rattle.growth.specs.Grown.{parent_at, node_at, held_at, is_held, Holds, carry, with_leaf}
+use Rattle.growth.specs.Grown.{parent_at, node_at, held_at, Holds, carry, with_leaf}
 use Rattle.growth.specs.declared.origin.Origin.{Origin}
 use Rattle.growth.proofs.Strings.{Strings, node-str}
-use Rattle.growth.proofs.Trees.{Fills, node-up, held-odd, held-here, held_below, held-above, not_root, fills_up, carry-odd, carry-even}
+use Rattle.growth.proofs.Trees.{Fills, node-up, held-unless, held-odd, held-here, held_below, held-above, not_root, fills_up, carry-odd, carry-even}
 
-module _ (hash : Hash) (code : Code) (o : Origin) (all : Strings hash o) (tall : o.height ≤ 8) (few : code.levels ≤ 8) (g : ℕ) where
+module _ (hash : Hash) (code : Code) (o : Origin) (g : ℕ) where
   abbrev parent : ℕ → List ℕ → List ℕ → List ℕ
   parent = parent_at hash o
 
@@ -21,90 +21,93 @@ module _ (hash : Hash) (code : Code) (o : Origin) (all : Strings hash o) (tall :
   abbrev More : List ℕ → Type 0
   More row = (length row ≡ 144) × Holds hash code o (g + 1) row
 
-  node-long : (a b : ℕ) → a ≤ o.height → length (at a b) ≡ 16
-  node-long a b le = (node-str hash code o all (o.height + code.levels - a) a b (omega arith)).0
+  -- string s, which is node m, comes in at this level: the levels below it are empty, and the others are as they were
+  pub record Comes (level m : ℕ) (s row : List ℕ) : Type 0 where
+    pub within : level ≤ o.height
+    pub fills : Fills g m (o.height - level)
+    pub is : s ≡ at level m
+    pub long : length row ≡ 144
+    pub empty : (a : ℕ) → a < 9 → level < a → string_at row a ≡ zero_string
+    pub before : (a : ℕ) → a ≤ level → string_at row a ≡ held_at hash code o g a
 
-  -- node m comes in at this level: the levels below it are empty, and the others are as they were
-  record Comes (level m : ℕ) (row : List ℕ) : Type 0 where
-    within : level ≤ o.height
-    fills : Fills g m (o.height - level)
-    long : length row ≡ 144
-    empty : (a : ℕ) → a < 9 → level < a → string_at row a ≡ zero_string
-    before : (a : ℕ) → a ≤ level → string_at row a ≡ held_at hash code o g a
+  -- the new leaf's node comes in at the level of the leaves
+  pub comes-first : o.height ≤ 8 → (s nodes : List ℕ) → s ≡ at o.height g → length nodes ≡ 144 → Holds hash code o g nodes → Comes o.height g s nodes
+  comes-first tall s nodes is long held =
+      let none : o.height - o.height ≡ 0 = omega arith in
+      record {
+        within = omega arith;
+        fills = omega (arith, ap (λ j. (g + 1) * 2 ^ j) none);
+        is = is;
+        long = long;
+        empty = λ a lt far. held a lt ∙ held-unless hash code o g a (λ near odd. omega arith);
+        before = λ a le. held a (omega arith);
+      }
 
-  -- an even node stays there
-  stays : (level m : ℕ) (row : List ℕ) → Comes level m row → (m % 2 ≡ 1 → ⊥) → More (carry parent level m (at level m) row)
-  stays level m row c odd =
-      let le = c.within in
-      let long = c.long in
-      let one = node-long level m le in
-      let even : m % 2 ≡ 0 = omega arith in
-      let others : (a : ℕ) → (a ≡ level → ⊥) → string_at (put_string row level (at level m)) a ≡ string_at row a = λ a ne. at-put-other row level a (at level m) (omega arith) one ne in
-      subst More (sym (carry-even parent level m (at level m) row odd)) (
-        length-put_string row level (at level m) (omega arith) one ∙ long,
-        λ a lt.
-            ⊎_elim
-            (λ (more : level < a). others a (omega arith) ∙ c.empty a lt more ∙ sym (held_below hash code o g m level le c.fills a more))
-            (λ (less : a ≤ level).
-            ⊎_elim
-            (λ (under : a < level). others a (omega arith) ∙ c.before a less ∙ sym (held-above hash code o g m level le c.fills even a under))
-            (λ (over : level ≤ a).
-            let e : level ≡ a = omega arith in
-            subst (λ n. string_at (put_string row level (at level m)) n ≡ held_at hash code o (g + 1) n) e
-            (at-put-same row level (at level m) (omega arith) one ∙ sym (held-here hash code o g m level le c.fills even)))
-            (cases_lt a level))
-            (cases_lt level a),
-      )
+  module _ (tall : o.height ≤ 8) (level m : ℕ) (s row : List ℕ) (c : Comes level m s row) where
+    -- an even node stays there
+    pub stays : length s ≡ 16 → (m % 2 ≡ 1 → ⊥) → More (carry parent level m s row)
+    stays one odd =
+        let le = c.within in
+        let long = c.long in
+        let even : m % 2 ≡ 0 = omega arith in
+        let others : (a : ℕ) → (a ≡ level → ⊥) → string_at (put_string row level s) a ≡ string_at row a = λ a ne. at-put-other row level a s (omega arith) one ne in
+        subst More (sym (carry-even parent level m s row odd)) (
+          length-put_string row level s (omega arith) one ∙ long,
+          λ a lt.
+              ⊎_elim
+              (λ (more : level < a). others a (omega arith) ∙ c.empty a lt more ∙ sym (held_below hash code o g m level le c.fills a more))
+              (λ (less : a ≤ level).
+              ⊎_elim
+              (λ (under : a < level). others a (omega arith) ∙ c.before a less ∙ sym (held-above hash code o g m level le c.fills even a under))
+              (λ (over : level ≤ a).
+              let e : level ≡ a = omega arith in
+              subst (λ n. string_at (put_string row level s) n ≡ held_at hash code o (g + 1) n) e
+              (at-put-same row level s (omega arith) one ∙ c.is ∙ sym (held-here hash code o g m level le c.fills even)))
+              (cases_lt a level))
+              (cases_lt level a),
+        )
 
-  -- an odd node joins what waits there, and goes on above
-  joins : (k m : ℕ) (row : List ℕ) → Comes (suc k) m row → m % 2 ≡ 1 → (carry parent (suc k) m (at (suc k) m) row ≡ carry parent k (m / 2) (at k (m / 2)) (put_string row (suc k) zero_string)) × Comes k (m / 2) (put_string row (suc k) zero_string)
-  joins k m row c odd =
-      let le = c.within in
-      let long = c.long in
-      let back : suc k - 1 ≡ k = omega arith in
-      let up : suc k ≡ k + 1 = omega arith in
-      let even : m - 1 ≡ 2 * (m / 2) = omega arith in
-      let other : m ≡ 2 * (m / 2) + 1 = omega arith in
-      let left : string_at row (suc k) ≡ at (k + 1) (2 * (m / 2)) = c.before (suc k) (omega arith) ∙ held-odd hash code o g m (suc k) le c.fills odd ∙ (λ i. at (up i) (even i)) in
-      let right : at (suc k) m ≡ at (k + 1) (2 * (m / 2) + 1) = λ i. at (up i) (other i) in
-      let over : parent k (string_at row (suc k)) (at (suc k) m) ≡ at k (m / 2) = (λ i. parent k (left i) (right i)) ∙ sym (node-up hash code o k (m / 2) (omega arith)) in
-      let others : (a : ℕ) → (a ≡ suc k → ⊥) → string_at (put_string row (suc k) zero_string) a ≡ string_at row a = λ a ne. at-put-other row (suc k) a zero_string (omega arith) refl ne in (
-        carry-odd parent (suc k) m (at (suc k) m) row (omega arith) odd
-            ∙ ap (λ n. carry parent n (m / 2) (parent n (string_at row (suc k)) (at (suc k) m)) (put_string row (suc k) zero_string)) back
-            ∙ ap (λ s. carry parent k (m / 2) s (put_string row (suc k) zero_string)) over,
+    -- an odd node joins what waits there, and their parent comes in above
+    pub comes-above : 0 < level → m % 2 ≡ 1 → Comes (level - 1) (m / 2) (parent (level - 1) (string_at row level) s) (put_string row level zero_string)
+    comes-above some odd =
+        let le = c.within in
+        let long = c.long in
+        let up : level ≡ level - 1 + 1 = omega arith in
+        let even : m - 1 ≡ 2 * (m / 2) = omega arith in
+        let other : m ≡ 2 * (m / 2) + 1 = omega arith in
+        let left = c.before level (omega arith) ∙ held-odd hash code o g m level le c.fills odd ∙ (λ i. at (up i) (even i)) in
+        let right = c.is ∙ (λ i. at (up i) (other i)) in
+        let others : (a : ℕ) → (a ≡ level → ⊥) → string_at (put_string row level zero_string) a ≡ string_at row a = λ a ne. at-put-other row level a zero_string (omega arith) refl ne in
         record {
           within = omega arith;
-          fills = subst (λ n. Fills g (m / 2) (o.height - n)) back (fills_up hash code o g m (suc k) le c.fills (omega arith) odd);
-          long = length-put_string row (suc k) zero_string (omega arith) refl ∙ long;
+          fills = fills_up hash code o g m level le c.fills some odd;
+          is = (λ i. parent (level - 1) (left i) (right i)) ∙ sym (node-up hash code o (level - 1) (m / 2) (omega arith));
+          long = length-put_string row level zero_string (omega arith) refl ∙ long;
           empty = λ a lt more.
               ⊎_elim
-              (λ (far : suc k < a). others a (omega arith) ∙ c.empty a lt far)
-              (λ (near : a ≤ suc k).
-              let e : suc k ≡ a = omega arith in
-              subst (λ n. string_at (put_string row (suc k) zero_string) n ≡ zero_string) e (at-put-same row (suc k) zero_string (omega arith) refl))
-              (cases_lt (suc k) a);
+              (λ (far : level < a). others a (omega arith) ∙ c.empty a lt far)
+              (λ (near : a ≤ level).
+              let e : level ≡ a = omega arith in
+              subst (λ n. string_at (put_string row level zero_string) n ≡ zero_string) e (at-put-same row level zero_string (omega arith) refl))
+              (cases_lt level a);
           before = λ a less. others a (omega arith) ∙ c.before a (omega arith);
-        },
-      )
+        }
 
-  module _ (room : g < 2 ^ o.height) where
-    carried : (level m : ℕ) (row : List ℕ) → Comes level m row → More (carry parent level m (at level m) row)
-    carried zero m row c = stays zero m row c (λ odd. let low = not_root hash code o g m zero c.within c.fills room odd in omega arith)
-    carried (suc k) m row c =
-        ⊎_elim
-        (λ (odd : m % 2 ≡ 1). let next = joins k m row c odd in subst More (sym next.0) (carried k (m / 2) (put_string row (suc k) zero_string) next.1))
-        (λ (even : m % 2 ≡ 1 → ⊥). stays (suc k) m row c even)
-        (cases_eq (m % 2) 1)
+module _ (hash : Hash) (code : Code) (o : Origin) (all : Strings hash o) (tall : o.height ≤ 8) (few : code.levels ≤ 8) (g : ℕ) (room : g < 2 ^ o.height) where
+  long : (level m : ℕ) (s row : List ℕ) → Comes hash code o g level m s row → length s ≡ 16
+  long level m s row c = let le = c.within in ap length c.is ∙ (node-str hash code o all (o.height + code.levels - level) level m (omega arith)).0
 
-    -- one leaf more, and the row is as long as it was
-    pub holds_more : (nodes : List ℕ) → length nodes ≡ 144 → Holds hash code o g nodes → (length (with_leaf hash code o g nodes) ≡ 144) × Holds hash code o (g + 1) (with_leaf hash code o g nodes)
-    holds_more nodes long held =
-        let none : o.height - o.height ≡ 0 = omega arith in
-        carried o.height g nodes
-        (record {
-          within = omega arith;
-          fills = omega (arith, ap (λ j. (g + 1) * 2 ^ j) none);
-          long = long;
-          empty = λ a lt far. held a lt ∙ cond-false (is_held o.height g a) _ _ (and_left _ _ (lt-leb a o.height far));
-          before = λ a le. held a (omega arith);
-        })
+  -- n levels from the root
+  carried : (n level m : ℕ) (s row : List ℕ) → level ≡ n → Comes hash code o g level m s row → More hash code o g (carry (parent_at hash o) level m s row)
+  carried zero level m s row root c = stays hash code o g tall level m s row c (long level m s row c) (λ odd. let some = not_root hash code o g m level c.within c.fills room odd in omega arith)
+  carried (suc n) level m s row above c =
+      ⊎_elim
+      (λ (odd : m % 2 ≡ 1).
+      let some = not_root hash code o g m level c.within c.fills room odd in
+      subst (More hash code o g) (sym (carry-odd (parent_at hash o) level m s row some odd)) (carried n (level - 1) (m / 2) _ _ (omega arith) (comes-above hash code o g tall level m s row c some odd)))
+      (stays hash code o g tall level m s row c (long level m s row c))
+      (cases_eq (m % 2) 1)
+
+  -- one leaf more, and the row is as long as it was
+  pub holds_more : (nodes : List ℕ) → length nodes ≡ 144 → Holds hash code o g nodes → (length (with_leaf hash code o g nodes) ≡ 144) × Holds hash code o (g + 1) (with_leaf hash code o g nodes)
+  holds_more nodes long held = carried o.height o.height g (node_at hash code o o.height g) nodes refl (comes-first hash code o g tall _ nodes refl long held)

@@ -34,6 +34,20 @@ module _ (hash : Hash) (code : Code) (o : Origin) where
       let up : o.height + code.levels - a ≡ d + 1 = omega arith in
       ap (λ n. node (parent_at hash o) (bottom hash code o) a n b) up ∙ node-parent (parent_at hash o) (bottom hash code o) a d b
 
+  -- what is held at a level with an odd number of filled subtrees, and at any other
+  held-last : (g a n : ℕ) → a ≤ o.height → filled g (o.height - a) ≡ n → n % 2 ≡ 1 → held_at hash code o g a ≡ node_at hash code o a (n - 1)
+  held-last g a n within is odd =
+      cond-true (is_held o.height g a) _ _ (and_from _ _ (le-leb a o.height within) (eq-eqb (filled g (o.height - a) % 2) 1 (ap (λ m. m % 2) is ∙ odd)))
+      ∙ ap (λ m. node_at hash code o a (m - 1)) is
+
+  pub held-unless : (g a : ℕ) → (a ≤ o.height → filled g (o.height - a) % 2 ≡ 1 → ⊥) → held_at hash code o g a ≡ zero_string
+  held-unless g a none =
+      cond-false (is_held o.height g a) _ _
+      (⊎_elim
+      (λ (far : o.height < a). and_left _ _ (lt-leb a o.height far))
+      (λ (near : a ≤ o.height). and_right (leb a o.height) _ (ne_eqb (filled g (o.height - a) % 2) 1 (none near)))
+      (cases_lt o.height a))
+
 -- g + 1 leaves fill m + 1 subtrees of 2 ^ j leaves, and nothing is over
 abbrev pub Fills : ℕ → ℕ → ℕ → Type 0
 Fills g m j = g + 1 ≡ (m + 1) * 2 ^ j
@@ -69,29 +83,20 @@ below-filled g m j k e =
 module _ (hash : Hash) (code : Code) (o : Origin) (g m level : ℕ) (within : level ≤ o.height) (fills : Fills g m (o.height - level)) where
   -- the node that waits at this level where m is odd
   pub held-odd : m % 2 ≡ 1 → held_at hash code o g level ≡ node_at hash code o level (m - 1)
-  held-odd odd =
-      let is = last-filled g m (o.height - level) fills in
-      cond-true (is_held o.height g level) _ _ (and_from _ _ (le-leb level o.height within) (eq-eqb (filled g (o.height - level) % 2) 1 (ap (λ n. n % 2) is ∙ odd)))
-      ∙ ap (λ n. node_at hash code o level (n - 1)) is
+  held-odd odd = held-last hash code o g level m within (last-filled g m (o.height - level) fills) odd
 
   -- a leaf more is in, and m is even: what is held at this level, below it and above it
   pub held-here : m % 2 ≡ 0 → held_at hash code o (g + 1) level ≡ node_at hash code o level m
   held-here even =
-      let is = next-filled g m (o.height - level) fills in
-      cond-true (is_held o.height (g + 1) level) _ _ (and_from _ _ (le-leb level o.height within) (eq-eqb (filled (g + 1) (o.height - level) % 2) 1 (ap (λ n. n % 2) is ∙ omega arith)))
-      ∙ ap (λ n. node_at hash code o level (n - 1)) is
-      ∙ ap (node_at hash code o level) (omega arith)
+      held-last hash code o (g + 1) level (m + 1) within (next-filled g m (o.height - level) fills) (omega arith) ∙ ap (node_at hash code o level) (omega arith)
 
   pub held_below : (a : ℕ) → level < a → held_at hash code o (g + 1) a ≡ zero_string
   held_below a h =
-      cond-false (is_held o.height (g + 1) a) _ _
-      (⊎_elim
-      (λ (far : o.height < a). and_left _ _ (lt-leb a o.height far))
-      (λ (near : a ≤ o.height).
+      held-unless hash code o (g + 1) a
+      (λ near odd.
       let rest : o.height - level ≡ (o.height - a) + (1 + (a - level - 1)) = omega arith in
-      let none = below-filled g m (o.height - a) (a - level - 1) (fills ∙ ap (λ j. (m + 1) * 2 ^ j) rest) in
-      and_right (leb a o.height) _ (ne_eqb (filled (g + 1) (o.height - a) % 2) 1 (λ e. omega arith)))
-      (cases_lt o.height a))
+      let even = below-filled g m (o.height - a) (a - level - 1) (fills ∙ ap (λ j. (m + 1) * 2 ^ j) rest) in
+      omega arith)
 
   pub held-above : m % 2 ≡ 0 → (a : ℕ) → a < level → held_at hash code o (g + 1) a ≡ held_at hash code o g a
   held-above even a h =
@@ -132,14 +137,11 @@ carry-even parent (suc a) b s nodes even = cond-false (eqb (b % 2) 1) _ _ (ne_eq
 pub holds-none : (hash : Hash) (code : Code) (o : Origin) → Holds hash code o 0 (replicate 144 0)
 holds-none hash code o a h =
     let none : filled 0 (o.height - a) % 2 ≡ 0 = ap (λ n. n % 2) (zero-div (2 ^ (o.height - a))) in
-    string_at-zeros 144 a (omega arith)
-    ∙ sym (cond-false (is_held o.height 0 a) _ _ (and_right (leb a o.height) _ (ne_eqb (filled 0 (o.height - a) % 2) 1 (λ e. omega arith))))
+    string_at-zeros 144 a (omega arith) ∙ sym (held-unless hash code o 0 a (λ near odd. omega arith))
 
 -- with all leaves in, the root is held
 pub holds-root : (hash : Hash) (code : Code) (o : Origin) (nodes : List ℕ) → Holds hash code o (2 ^ o.height) nodes → string_at nodes 0 ≡ node_at hash code o 0 0
 holds-root hash code o nodes held =
     let whole : filled (2 ^ o.height) (o.height - 0) ≡ 1 =
     ap (λ j. 2 ^ o.height / 2 ^ j) (omega arith) ∙ div_self (pow_pos o.height) in
-    held 0 (omega arith)
-    ∙ cond-true (is_held o.height (2 ^ o.height) 0) _ _ (and_from _ _ (le-leb 0 o.height (omega arith)) (eq-eqb (filled (2 ^ o.height) (o.height - 0) % 2) 1 (ap (λ n. n % 2) whole)))
-    ∙ ap (λ n. node_at hash code o 0 (n - 1)) whole
+    held 0 (omega arith) ∙ held-last hash code o (2 ^ o.height) 0 1 (omega arith) whole refl
