@@ -1,6 +1,6 @@
 -- What trace answers and leaves, where verify refuses and where it does not.
 -- Assumes nothing.
-use Rattle.std.proofs.Common.{◌≡◌, ℕ, ◌^◌, true, false, not, eqb, leb, List, length, Ok, Err, Result, sym, ap, ◌∙◌, subst}
+use Rattle.std.proofs.Common.{◌≡◌, ℕ, ◌^◌, true, false, not, eqb, leb, List, length, get_or, None, Ok, Err, Option, Result, sym, ap, ◌∙◌, subst}
 use Rattle.std.specs.Str.{bytes_eq}
 use Rattle.std.proofs.lemmas.Bool.{cond-true, cond-false, not_from_true, not_from_false}
 use Rattle.compare.specs.Found.{Found, verdict_numbers, verdict_report}
@@ -25,24 +25,30 @@ module _ (hash : Hash) (code : Code) (s : Signing) (stamp bytes report : List �
   abbrev first : ℕ → Verdict
   first i = found hash code (traced_by s stamp i bytes)
 
-  -- a refusal is verify's, and the report stays
-  pub refused-answer : (e : Refusal) → verified ≡ Err e → Err e ≡ trace_answer hash code s stamp bytes
-  refused-answer e is = sym (ap (λ v. after v (λ i. Ok (verdict_numbers i (first i)))) is)
+  -- an answer and a report that are by the rule
+  pub record ByRule (r : Result (ℕ × ℕ × ℕ) Refusal) (shown : List ℕ) : Type 0 where
+    pub answers : r ≡ trace_answer hash code s stamp bytes
+    pub reports : shown ≡ trace_report hash code s stamp bytes report
+    pub finds : Finds hash code s stamp bytes r shown
 
-  pub refused-report : (e : Refusal) → verified ≡ Err e → report ≡ trace_report hash code s stamp bytes report
-  refused-report e is = sym (ap (λ v. report_after v (λ i. verdict_report (first i)) report) is)
+  -- a refusal is verify's, and the report stays
+  refused : (e : Refusal) → verified ≡ Err e → ByRule (Err e) report
+  refused e is =
+      record {
+        answers = sym (ap (λ v. after v (λ i. Ok (verdict_numbers i (first i)))) is);
+        reports = sym (ap (λ v. report_after v (λ i. verdict_report (first i)) report) is);
+        finds = is;
+      }
 
   -- else the verdict is that of what is found first
-  module _ (i : ℕ) (v : Verdict) (is : verified ≡ Ok i) (finds : v ≡ first i) where
-    pub answer-is : Ok (verdict_numbers i v) ≡ trace_answer hash code s stamp bytes
-    answer-is = ap {B = Result (ℕ × ℕ × ℕ) Refusal} (λ x. Ok (verdict_numbers i x)) finds ∙ sym (ap (λ r. after r (λ j. Ok (verdict_numbers j (first j)))) is)
-
-    pub report-is : verdict_report v ≡ trace_report hash code s stamp bytes report
-    report-is = ap verdict_report finds ∙ sym (ap (λ r. report_after r (λ j. verdict_report (first j)) report) is)
-
-    pub finds-first : (numbers : ℕ × ℕ × ℕ) (shown : List ℕ) → numbers ≡ verdict_numbers i v → shown ≡ verdict_report v → Finds hash code s stamp bytes (Ok numbers) shown
-    finds-first numbers shown n r =
-        (i, v, is, subst (Found hash code (traced_by s stamp i bytes)) (sym finds) (found_first hash code (traced_by s stamp i bytes)), (λ v' f. found-only hash code (traced_by s stamp i bytes) v' f ∙ sym finds), n, r)
+  decided : (i : ℕ) (v : Verdict) (numbers : ℕ × ℕ × ℕ) (shown : List ℕ) → verified ≡ Ok i → v ≡ first i → numbers ≡ verdict_numbers i v → shown ≡ verdict_report v → ByRule (Ok numbers) shown
+  decided i v numbers shown is finds n r =
+      let t = traced_by s stamp i bytes in
+      record {
+        answers = ap {B = Result (ℕ × ℕ × ℕ) Refusal} Ok (n ∙ ap (verdict_numbers i) finds) ∙ sym (ap (λ x. after x (λ j. Ok (verdict_numbers j (first j)))) is);
+        reports = r ∙ ap verdict_report finds ∙ sym (ap (λ x. report_after x (λ j. verdict_report (first j)) report) is);
+        finds = (i, v, is, subst (Found hash code t) (sym finds) (found_first hash code t), (λ v' f. found-only hash code t v' f ∙ sym finds), n, r);
+      }
 
   -- what the signer reads by itself decides as verify does
   abbrev pub ReadsOwn : Type 0
@@ -50,18 +56,15 @@ module _ (hash : Hash) (code : Code) (s : Signing) (stamp bytes report : List �
       verified ≡ after (own_rule code.count s.origin.height bytes) (λ release. refuse (not (bytes_eq (rebuilt hash code s.origin.hash_key s.origin.masks s.origin.height release.leaf stamp release.row) s.root)) Root (Ok release.leaf))
 
   module _ (read : ReadsOwn) where
-    pub unread : (e : Refusal) → Err e ≡ own_rule code.count s.origin.height bytes → verified ≡ Err e
-    unread e is = read ∙ sym (stops (own_rule code.count s.origin.height bytes) e _ is)
+    pub unread : (e : Refusal) → Err e ≡ own_rule code.count s.origin.height bytes → ByRule (Err e) report
+    unread e is = refused e (read ∙ sym (stops (own_rule code.count s.origin.height bytes) e _ is))
 
     module _ (shown : Shown) (is : Ok shown ≡ own_rule code.count s.origin.height bytes) (root : List ℕ) (leads : root ≡ rebuilt hash code s.origin.hash_key s.origin.masks s.origin.height shown.leaf stamp shown.row) where
       tested : verified ≡ refuse (not (bytes_eq root s.root)) Root (Ok shown.leaf)
       tested = read ∙ after-at (own_rule code.count s.origin.height bytes) shown _ (sym is) ∙ ap (λ r. refuse (not (bytes_eq r s.root)) Root (Ok shown.leaf)) (sym leads)
 
-      pub misled : bytes_eq root s.root ≡ false → verified ≡ Err Root
-      misled differ = tested ∙ cond-true (not (bytes_eq root s.root)) _ _ (not_from_false _ differ)
-
-      pub led : bytes_eq root s.root ≡ true → verified ≡ Ok shown.leaf
-      led same = tested ∙ cond-false (not (bytes_eq root s.root)) _ _ (not_from_true _ same)
+      pub misled : bytes_eq root s.root ≡ false → ByRule (Err Root) report
+      misled differ = refused Root (tested ∙ cond-true (not (bytes_eq root s.root)) _ _ (not_from_false _ differ))
 
       -- the strings read are those that follow the leaf number
       pub row_read : shown.row ≡ row_of bytes
@@ -70,3 +73,10 @@ module _ (hash : Hash) (code : Code) (s : Signing) (stamp bytes report : List �
           let long = passes (not (eqb (length bytes) (release_length code.count s.origin.height))) Layout _ head.2 in
           let below = passes (leb (2 ^ s.origin.height) (leaf_of bytes)) Leaf _ long.1 in
           ap (λ x. x.row) (ok_same (sym below.1))
+
+      pub led : bytes_eq root s.root ≡ true → (entered : Option (List ℕ)) (v : Verdict) (numbers : ℕ × ℕ × ℕ) (filled : List ℕ) → entered ≡ get_or s.rows shown.leaf None → v ≡ found hash code (record { origin = s.origin; entered = entered; stamp = stamp; leaf = shown.leaf; row = shown.row }) → numbers ≡ verdict_numbers shown.leaf v → filled ≡ verdict_report v → ByRule (Ok numbers) filled
+      led same entered v numbers filled row finds n r =
+          decided shown.leaf v numbers filled
+          (tested ∙ cond-false (not (bytes_eq root s.root)) _ _ (not_from_true _ same))
+          (finds ∙ (λ i. found hash code (record { origin = s.origin; entered = row i; stamp = stamp; leaf = shown.leaf; row = row_read i })))
+          n r

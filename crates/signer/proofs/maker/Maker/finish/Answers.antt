@@ -1,12 +1,13 @@
 use Rattle.std.proofs.Common.{◌≡◌, ◌^◌, ◌<◌, ap, ◌∙◌, subst, arith, rules}
 use Rattle.std.proofs.lemmas.Nat.{one_shl}
 use Rattle.growth.specs.Grown.{node_at, Holds}
+use Rattle.growth.specs.declared.origin.Origin.{Origin}
 use Rattle.histories.specs.Rules.{finish_rule}
 use Rattle.histories.specs.States.{Signing}
 use Rattle.histories.proofs.Continuing.{finish-continues}
 use Rattle.growth.proofs.Trees.{holds-root}
 use Rattle.strings.specs.Strings.{string_at}
-use Rattle.tree.specs.Meaning.{hash_of, code_of}
+use Rattle.tree.specs.Meaning.{Hash, Code, hash_of, code_of}
 use Rattle.signer.specs.Views.{making_of}
 use Rattle.signer.proofs.Ledgers.{empty-fresh}
 use Rattle.signer.proofs.Growing.{leaves-turn, leaves_all}
@@ -28,31 +29,39 @@ loop-leaf-preserved g c =
       λ held. c.add_leaf.ensures.held (c.loop-leaf.invariant.3 held),
     )
 
--- the string at level 0 is the root, since all leaves are in
-root_is : (g : given.Over) (c : After-string_at-root g) → c.string_at-root.result ≡ node_at (hash_of g.H.ChainHash g.H.TreeHash) (code_of g.C.Code) c.args.self.origin 0 0
-root_is g c =
-    let hash = hash_of g.H.ChainHash g.H.TreeHash in
-    let code = code_of g.C.Code in
-    let o = c.args.self.origin in
-    let tall = c.args.self.tall in
-    let shift = one_shl o.height 16 (omega arith) in
-    let all : c.loop-leaf.leaf ≡ 2 ^ o.height = omega (arith, c.loop-leaf-test.false, c.loop-leaf.invariant.0) in
-    c.string_at-root.ensures ∙ holds-root hash code o c.loop-leaf.nodes (subst (λ n. Holds hash code o n c.loop-leaf.nodes) all (c.loop-leaf.invariant.3 c.args.self.holds))
+module _ (g : given.Over) (c : After-string_at-root g) where
+  abbrev hash : Hash
+  hash = hash_of g.H.ChainHash g.H.TreeHash
+
+  abbrev code : Code
+  code = code_of g.C.Code
+
+  abbrev o : Origin
+  o = c.args.self.origin
+
+  -- all leaves are in
+  all : c.loop-leaf.leaf ≡ 2 ^ o.height
+  all =
+      let tall = c.args.self.tall in
+      let shift = one_shl o.height 16 (omega arith) in
+      omega (arith, c.loop-leaf-test.false, c.loop-leaf.invariant.0)
+
+  -- so the string at level 0 is the root
+  root_is : c.string_at-root.result ≡ node_at hash code o 0 0
+  root_is = c.string_at-root.ensures ∙ holds-root hash code o c.loop-leaf.nodes (subst (λ n. Holds hash code o n c.loop-leaf.nodes) all (c.loop-leaf.invariant.3 c.args.self.holds))
 
 pub returns : goal.returns
 returns g c =
-    let hash = hash_of g.H.ChainHash g.H.TreeHash in
-    let code = code_of g.C.Code in
-    let o = c.args.self.origin in
-    let tall = c.args.self.tall in
-    let shift = one_shl o.height 16 (omega arith) in
-    let all : c.loop-leaf.leaf ≡ 2 ^ o.height = omega (arith, c.loop-leaf-test.false, c.loop-leaf.invariant.0) in
-    let last = leaves_all hash code o (2 ^ o.height) c.loop-leaf.leaf c.args.self.grown c.loop-leaf.nodes c.args.self.nodes all c.loop-leaf.invariant.2 in
+    let at = (goal.at.returns g c).After-string_at-root in
+    let hash = hash g at in
+    let code = code g at in
+    let o = o g at in
+    let last = leaves_all hash code o (2 ^ o.height) c.loop-leaf.leaf c.args.self.grown c.loop-leaf.nodes c.args.self.nodes (all g at) c.loop-leaf.invariant.2 in
     let state : ◌≡◌ {A = Signing} _ (finish_rule hash code (making_of c.args.self)) = λ i. record { origin = o; root = (c.string_at-root.ensures ∙ ap (λ l. string_at l 0) last) i; next = 0; rows = c.empty.ensures i } in
     record {
       state = state;
       lived = finish-continues hash code (making_of c.args.self) _ state;
-      rooted = root_is g (goal.at.returns g c).After-string_at-root;
+      rooted = root_is g at;
       wiped = c.drop-guard.ensures;
     }
 
