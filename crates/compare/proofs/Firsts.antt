@@ -42,6 +42,14 @@ module _ (f : ℕ → Option Find) where
   unfolding first_from
   first_more a n = first-split a n 1 ∙ ap (option_or (first_from f a n)) (or-none (f (a + n)))
 
+  -- a find at the place before those that were searched, and at the one after them
+  pub first-before : (a b n m : ℕ) (x y : Option Find) → a + 1 ≡ b → n + 1 ≡ m → x ≡ f a → y ≡ first_from f b n → option_or x y ≡ first_from f a m
+  first-before a b n m x y next more p q =
+      (λ i. option_or (p i) ((q ∙ ap (λ c. first_from f c n) (sym next)) i)) ∙ sym (first-front a n) ∙ ap (first_from f a) more
+
+  pub first-after : (n : ℕ) (x y : Option Find) → x ≡ first_from f 0 n → y ≡ f n → option_or x y ≡ first_from f 0 (n + 1)
+  first-after n x y p q = (λ i. option_or (p i) ((q ∙ ap f (sym (zero-add n))) i)) ∙ sym (first_more 0 n)
+
   pub last_more : (a n : ℕ) → last_from f a (n + 1) ≡ option_or (f (a + n)) (last_from f a n)
   unfolding last_from
   last_more a n = rw (add-one n)

@@ -83,16 +83,19 @@ module _ (h i l : ℕ) (P : ℕ → ℕ → Type 0) (siblings : (e : ℕ) → e 
       subst (P (a + 1)) (sym beside.1) (subst (λ n. P n (sibling_of (i / 2 ^ e))) level (siblings e (omega (arith, beside.0)))))
       (near_down h i a c near)
 
+  children : (a b : ℕ) → ((c : ℕ) → Near h i (a + 1) c → P (a + 1) c) → Near h i a b → P (a + 1) (2 * b) × P (a + 1) (2 * b + 1)
+  children a b below near =
+      let under : (c : ℕ) → c / 2 ≡ b → P (a + 1) c = λ c half. one-child a c below (subst (Near h i a) (sym half) near) in
+      (under (2 * b) (omega arith), under (2 * b + 1) (omega arith))
+
   near-all : (d a b : ℕ) → a + d ≡ h + l → Near h i a b → P a b
   near-all zero a b at near =
       let low : h + l ≡ a = omega arith in
       let near' = subst (λ n. Near h i n b) (sym low) near in
       subst (λ n. P n b) low (subst (P (h + l)) (bottom-near h i l b near') (bottom (b % 2 ^ l) (mod-lt b (pow_pos l))))
   near-all (suc d) a b at near =
-      let under : (c : ℕ) → c / 2 ≡ b → P (a + 1) c = λ c half. one-child a c (λ b' near'. near-all d (a + 1) b' (omega arith) near') (subst (Near h i a) (sym half) near) in
-      parent a b (omega arith) near (under (2 * b) (omega arith)) (under (2 * b + 1) (omega arith))
+      let both = children a b (λ c. near-all d (a + 1) c (omega arith)) near in
+      parent a b (omega arith) near both.0 both.1
 
   pub below-near : (a b : ℕ) → a < h + l → Near h i a b → P (a + 1) (2 * b) × P (a + 1) (2 * b + 1)
-  below-near a b inner near =
-      let under : (c : ℕ) → c / 2 ≡ b → P (a + 1) c = λ c half. one-child a c (λ b' near'. near-all (h + l - (a + 1)) (a + 1) b' (omega arith) near') (subst (Near h i a) (sym half) near) in
-      (under (2 * b) (omega arith), under (2 * b + 1) (omega arith))
+  below-near a b inner near = children a b (λ c. near-all (h + l - (a + 1)) (a + 1) c (omega arith)) near

@@ -135,6 +135,20 @@ module _ (Break : ℕ → ℕ → Type 0) (report : ℕ → ℕ → Find) (Befor
             (cases_order r a);
       })
 
+-- of a row whose breaks all stand among n places from p on, the first
+row-first : (Break : ℕ → ℕ → Type 0) (report : ℕ → ℕ → Find) (a p n : ℕ) (f : ℕ → Option Find) → ((b : ℕ) → Break a b → (p ≤ b) × (b < p + n)) → ((b : ℕ) → p ≤ b → b < p + n → MatchOption (f b) (Break a b → ⊥) (λ x. Break a b × (x ≡ report a b))) → RowOf Break report ◌≤◌ a (first_from f p n)
+row-first Break report a p n f within each =
+    cases-weaker (first_from f p n)
+    (first-cases (λ b. Break a b → ⊥) (λ b x. Break a b × (x ≡ report a b)) p f n each)
+    (λ none b br. let r = within b br in none b r.0 r.1 br)
+    (λ x s.
+    record {
+      place = s.at;
+      breaks = s.here.0;
+      is = s.here.1;
+      least = λ b br. ⊎_elim (λ (less : b < s.at). absurd (s.before b (within b br).0 less br)) (λ (le : s.at ≤ b). le) (cases_lt b s.at);
+    })
+
 -- two pairs of which neither is after the other
 same-pair : (a b a' b' : ℕ) → (a < a') ⊎ ((a ≡ a') × (b ≤ b')) → (a' < a) ⊎ ((a' ≡ a) × (b' ≤ b)) → (a ≡ a') × (b ≡ b')
 same-pair a b a' b' (inl p) (inl q) = absurd (omega arith)
@@ -184,17 +198,7 @@ module _ (hash : Hash) (code : Code) (t : Traced) where
 
   -- in one row, which is a level or a chain: the lowest position of a level, the greatest height of a chain
   in-level : (a : ℕ) → a < h + code.levels → RowOf (NodeBreak hash code t) node_find ◌≤◌ a (level_search hash code t a)
-  in-level a lt =
-      cases-weaker (level_search hash code t a)
-      (first-cases (λ b. NodeBreak hash code t a b → ⊥) (λ b x. NodeBreak hash code t a b × (x ≡ node_find a b)) (first_place hash code t a) (node_find_at hash code t a) (width hash code t a) (λ b lo hi. node-found a b lt (near-from a b lo hi)))
-      (λ none b n. let r = near-to a b n.near in none b r.0 r.1 n)
-      (λ x f.
-      record {
-        place = f.at;
-        breaks = f.here.0;
-        is = f.here.1;
-        least = λ b n. ⊎_elim (λ (less : b < f.at). absurd (f.before b (near-to a b n.near).0 less n)) (λ (le : f.at ≤ b). le) (cases_lt b f.at);
-      })
+  in-level a lt = row-first (NodeBreak hash code t) node_find a _ _ (node_find_at hash code t a) (λ b n. near-to a b n.near) (λ b lo hi. node-found a b lt (near-from a b lo hi))
 
   in-chain : (k : ℕ) → k < code.count → RowOf (ChainBreak hash code t) chain_find (λ e e'. e' ≤ e) k (height_search hash code t k)
   in-chain k lt =
@@ -223,33 +227,17 @@ module _ (hash : Hash) (code : Code) (t : Traced) where
   in-chains : ChainsOf (chain_search hash code t)
   in-chains = rows-found (ChainBreak hash code t) chain_find (λ e e'. e' ≤ e) (height_search hash code t) code.count (λ k e c. c.chain) in-chain
 
-  -- the lowest chain that is hidden, which x reports
-  record FirstHidden (x : Find) : Type 0 where
-    place : ℕ
-    hides : Hidden code t place
-    is : x ≡ hidden_find_of place
-    least : (k : ℕ) → Hidden code t k → place ≤ k
-
+  -- the lowest chain that is hidden: all are one row
   abbrev HiddenOf : Option Find → Type 0
-  HiddenOf o = MatchOption o ((k : ℕ) → Hidden code t k → ⊥) FirstHidden
+  HiddenOf = RowOf (λ a. Hidden code t) (λ a. hidden_find_of) ◌≤◌ 0
 
   in-hidden : HiddenOf (hidden_search hash code t)
-  in-hidden =
-      cases-weaker (hidden_search hash code t)
-      (first-cases (λ k. Hidden code t k → ⊥) (λ k x. Hidden code t k × (x ≡ hidden_find_of k)) 0 (hidden_find_at hash code t) code.count (λ k lo hi. hidden_found k (omega arith)))
-      (λ none k u. none k (omega arith) (omega arith) u)
-      (λ x f.
-      record {
-        place = f.at;
-        hides = f.here.0;
-        is = f.here.1;
-        least = λ k u. ⊎_elim (λ (less : k < f.at). absurd (f.before k (omega arith) less u)) (λ (le : f.at ≤ k). le) (cases_lt k f.at);
-      })
+  in-hidden = row-first (λ a. Hidden code t) (λ a. hidden_find_of) 0 0 code.count (hidden_find_at hash code t) (λ k u. let lt = u.chain in (omega arith, omega arith)) (λ k lo hi. hidden_found k (omega arith))
 
   chosen-found : (o p q : Option Find) → NodesOf o → ChainsOf p → HiddenOf q → Found hash code t (chosen o p q)
   chosen-found (Some x) p q n c u = subst (λ y. Found hash code t (Node y)) (sym n.is) (node_break n.row n.place n.breaks n.least)
   chosen-found None (Some x) q n c u = subst (λ y. Found hash code t (Chain y)) (sym c.is) (chain_break n c.row c.place c.breaks c.least)
-  chosen-found None None (Some x) n c u = subst (λ y. Found hash code t (Unrevealed y)) (sym u.is) (unrevealed n c u.place u.hides u.least)
+  chosen-found None None (Some x) n c u = subst (λ y. Found hash code t (Unrevealed y)) (sym u.is) (unrevealed n c u.place u.breaks u.least)
   chosen-found None None None n c u = ours n c u
 
   -- what the search finds is what trace is to find

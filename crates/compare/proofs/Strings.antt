@@ -1,6 +1,6 @@
 -- What both sides are made of are strings.
 -- Assumes nothing.
-use Rattle.std.proofs.Common.{◌≡◌, ℕ, ◌+◌, ◌-◌, ◌*◌, ◌<◌, ◌≤◌, length, sym, subst, arith}
+use Rattle.std.proofs.Common.{◌≡◌, ℕ, ◌+◌, ◌-◌, ◌*◌, ◌<◌, ◌≤◌, List, length, sym, subst, arith}
 use Rattle.strings.specs.Strings.{Bytes, Str, string_at}
 use Rattle.strings.proofs.Laws.{string_at-str}
 use Rattle.tree.specs.Meaning.{Hash, Code}
@@ -18,6 +18,12 @@ module _ (hash : Hash) (code : Code) (t : Traced) (lawful : Lawful hash code t.o
   abbrev l : ℕ
   l = code.levels
 
+  -- the inputs of a pair, where the two nodes below it are strings
+  inputs-str : (nodes : ℕ → ℕ → List ℕ) (a b : ℕ) → a < h + l → Str (nodes (a + 1) (2 * b)) × Str (nodes (a + 1) (2 * b + 1)) → Str (left_input hash code t nodes a b) × Str (right_input hash code t nodes a b)
+  inputs-str nodes a b lt strs =
+      let few = lawful.laws.level_range.1 in
+      (input-str hash t.origin lawful.strings _ (2 * a) (omega arith) strs.0, input-str hash t.origin lawful.strings _ (2 * a + 1) (omega arith) strs.1)
+
   -- the signer's side
   pub our-chain-str : (k e : ℕ) → Str (our_chain hash code t k e)
   our-chain-str k e = chain-str hash code t.origin lawful.strings t.leaf k e
@@ -26,11 +32,7 @@ module _ (hash : Hash) (code : Code) (t : Traced) (lawful : Lawful hash code t.o
   our-node-str a b le = let few = lawful.laws.level_range.1 in node-str hash code t.origin lawful.strings (h + l - a) a b (omega arith)
 
   pub our-inputs-str : (a b : ℕ) → a < h + l → Str (left_input hash code t (our_node hash code t) a b) × Str (right_input hash code t (our_node hash code t) a b)
-  our-inputs-str a b lt =
-      let few = lawful.laws.level_range.1 in (
-        input-str hash t.origin lawful.strings _ (2 * a) (omega arith) (our-node-str (a + 1) (2 * b) (omega arith)),
-        input-str hash t.origin lawful.strings _ (2 * a + 1) (omega arith) (our-node-str (a + 1) (2 * b + 1) (omega arith)),
-      )
+  our-inputs-str a b lt = inputs-str (our_node hash code t) a b lt (our-node-str (a + 1) (2 * b) (omega arith), our-node-str (a + 1) (2 * b + 1) (omega arith))
 
   -- the record's side
   module _ (long : length t.row ≡ 16 * (code.count + t.origin.height)) (bytes : Bytes t.row) where
@@ -49,7 +51,4 @@ module _ (hash : Hash) (code : Code) (t : Traced) (lawful : Lawful hash code t.o
         (λ a b inner near left right. subst Str (sym (their-parent hash code t a b inner near)) (parent-str hash t.origin lawful.strings a _ _ (omega arith) left right))
 
     pub their-inputs-str : (a b : ℕ) → a < h + l → Near h t.leaf a b → Str (left_input hash code t (their_node hash code t) a b) × Str (right_input hash code t (their_node hash code t) a b)
-    their-inputs-str a b lt near =
-        let few = lawful.laws.level_range.1 in
-        let strs = their-children-str a b lt near in
-        (input-str hash t.origin lawful.strings _ (2 * a) (omega arith) strs.0, input-str hash t.origin lawful.strings _ (2 * a + 1) (omega arith) strs.1)
+    their-inputs-str a b lt near = inputs-str (their_node hash code t) a b lt (their-children-str a b lt near)

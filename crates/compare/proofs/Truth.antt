@@ -15,7 +15,7 @@ use Rattle.compare.specs.declared.verdict.Verdict.TheVariants.{Ours}
 use Rattle.compare.proofs.Lawful.{Lawful}
 use Rattle.compare.proofs.Near.{Near, child, sibling-half, root-only, near-way, near_up, near-bottom}
 use Rattle.compare.proofs.Nodes.{their-root}
-use Rattle.compare.proofs.Rows.{same_or_not, same-unless, both-unless, another}
+use Rattle.compare.proofs.Rows.{same-unless, both-unless, another}
 use Rattle.compare.proofs.Agreeing.{SameNode, SameChain, our_step, their-step, their-first, their_string, our-bottom, their-bottom, our-top, their-top, their-sibling, same-below, ShowsChains, ShowsSiblings, row_shows, shows-row}
 
 module _ (hash : Hash) (code : Code) (t : Traced) where
@@ -91,29 +91,25 @@ module _ (hash : Hash) (code : Code) (t : Traced) where
       same-unless (our_chain hash code t k e) (their_chain hash code t k e)
       (λ differ. none k e (record { chain = chain; shown = shown; under = omega arith; differ = differ; equal = our_step hash code t k e ∙ over ∙ sym (their-step hash code t k e shown) }))
 
-  -- a row of the ledger that has revealed each string of the stamp has the stamp: another has some digit above the stamp's
+  module _ (lawful : Lawful hash code t.origin) (str : Str t.stamp) (o : Option (List ℕ)) (none : (k : ℕ) → k < code.count → digit k < revealed_height code o k → ⊥) where
+    -- where a row of the ledger has revealed each string of the stamp, no other stamp has been revealed: it has some digit above the stamp's
+    stamp-is : (m : List ℕ) → Str m → ((k : ℕ) → code.digit m k ≤ revealed_height code o k) → t.stamp ≡ m
+    stamp-is m strm revealed =
+        same-unless t.stamp m
+        (λ isnt.
+        let larger = lawful.laws.apart t.stamp m str strm isnt in
+        let k = larger.0 in
+        ⊎_elim
+        (λ (lt : k < code.count). none k lt (omega (arith, revealed k, larger.1)))
+        (λ (le : code.count ≤ k). omega (arith, lawful.laws.past t.stamp k le, lawful.laws.past m k le, larger.1))
+        (cases_lt k code.count))
+
+  -- so the stamp is in that row
   entered-is : Lawful hash code t.origin → Str t.stamp → (o : Option (List ℕ)) → ((m : List ℕ) → o ≡ Some m → Str m) → ((k : ℕ) → k < code.count → digit k < revealed_height code o k → ⊥) → o ≡ Some t.stamp
-  entered-is lawful str (Some m) strs none =
-      ⊎_elim (λ (is : t.stamp ≡ m). ap Some (sym is))
-      (λ (isnt : t.stamp ≡ m → ⊥).
-      let larger = lawful.laws.apart t.stamp m str (strs m refl) isnt in
-      let k = larger.0 in
-      absurd
-      (⊎_elim
-      (λ (lt : k < code.count). none k lt larger.1)
-      (λ (le : code.count ≤ k). omega (arith, lawful.laws.past t.stamp k le, lawful.laws.past m k le, larger.1))
-      (cases_lt k code.count)))
-      (same_or_not t.stamp m)
+  entered-is lawful str (Some m) strs none = ap Some (sym (stamp-is lawful str (Some m) none m (strs m refl) (λ k. omega arith)))
   entered-is lawful str None strs none =
       let other = another t.stamp in
-      let larger = lawful.laws.apart t.stamp other.0 str other.1 other.2 in
-      let k = larger.0 in
-      let top = lawful.laws.within other.0 k other.1 in
-      absurd
-      (⊎_elim
-      (λ (lt : k < code.count). none k lt (omega (arith, top, larger.1)))
-      (λ (le : code.count ≤ k). omega (arith, lawful.laws.past t.stamp k le, top, larger.1))
-      (cases_lt k code.count))
+      absurd (other.2 (stamp-is lawful str None none other.0 other.1 (λ k. lawful.laws.within other.0 k other.1)))
 
   -- where the row shows the signer's strings, both sides are equal: along the chains, and from the bottom up
   chain-shown : ShowsChains hash code t → (k j e : ℕ) → k < code.count → digit k + j ≡ e → SameChain hash code t k e

@@ -1,10 +1,9 @@
-use Rattle.std.proofs.Common.{ℕ, ◌+◌, ◌*◌, List, Option, sym, refl, ap, ◌∙◌, zero-add, arith}
-use Rattle.std.specs.Option.{option_or}
+use Rattle.std.proofs.Common.{ℕ, ◌+◌, ◌*◌, List, Option, sym, refl, ◌∙◌, arith}
 use Rattle.strings.specs.Strings.{string_at}
 use Rattle.tree.specs.Nodes.{join}
 use Rattle.compare.specs.Search.{child_find}
 use Rattle.compare.specs.declared.verdict.Find.{Find}
-use Rattle.compare.proofs.Firsts.{first-none, first_more}
+use Rattle.compare.proofs.Firsts.{first-none, first-after}
 use Rattle.compare.proofs.Joined.{joined-more}
 use Rattle.compare.proofs.pairs.join_level.Goals as goal
 
@@ -31,9 +30,7 @@ loop-p-preserved g c =
           (c.put_string-in-loop-p.ensures.here ∙ above.theirs ∙ (λ i. join pair masks level (their.left i) (their.right i)))
           c.put_string-in-loop-p.ensures.others,
       c.or-found.ensures
-          ∙ (λ i. option_or (inv.2 i)
-          ((above.find
-          ∙ (λ j. child_find pair masks level (c.args.first + p) ((our.left ∙ inv.0.1 (2 * p) (omega arith)) j) ((our.right ∙ inv.0.1 (2 * p + 1) (omega arith)) j) ((their.left ∙ inv.1.1 (2 * p) (omega arith)) j) ((their.right ∙ inv.1.1 (2 * p + 1) (omega arith)) j))
-          ∙ ap at (sym (zero-add p))) i))
-          ∙ sym (first_more at 0 p),
+          ∙ first-after at p _ _ inv.2
+          (above.find
+          ∙ (λ i. child_find pair masks level (c.args.first + p) ((our.left ∙ inv.0.1 (2 * p) (omega arith)) i) ((our.right ∙ inv.0.1 (2 * p + 1) (omega arith)) i) ((their.left ∙ inv.1.1 (2 * p) (omega arith)) i) ((their.right ∙ inv.1.1 (2 * p + 1) (omega arith)) i))),
     )

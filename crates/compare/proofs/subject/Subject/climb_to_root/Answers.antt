@@ -1,13 +1,12 @@
 use Rattle.std.proofs.Common.{◌≡◌, ◌+◌, ◌-◌, ◌/◌, ◌^◌, sym, ap, ◌∙◌, arith}
 use native.Mathlib.Nat.{div-eq_of_lt}
 use Rattle.std.proofs.lemmas.Nat.{shr-shr}
-use Rattle.std.specs.Option.{option_or}
 use Rattle.tree.specs.Meaning.{hash_of, code_of}
 use Rattle.compare.specs.Search.{first_from, node_find_at, level_search}
 use Rattle.compare.specs.Sides.{our_node, their_node}
 use Rattle.compare.specs.Views.{traced_of}
 use Rattle.compare.proofs.Beside.{level-one}
-use Rattle.compare.proofs.Firsts.{first-none, first-front}
+use Rattle.compare.proofs.Firsts.{first-none, first-before}
 use Rattle.compare.proofs.subject.Subject.climb_to_root.Goals as goal
 
 pub loop-level-init : goal.loop-level-init
@@ -57,9 +56,9 @@ loop-level-preserved g c =
       above.ours,
       above.theirs,
       c.or-find.ensures
-          ∙ (λ i. option_or ((above.find ∙ ap (node_find_at hash code t a) half ∙ level-one hash code t a (omega (arith, inv.0))) i) ((inv.4 ∙ ap (λ b. first_from (level_search hash code t) b (h - level)) up) i))
-          ∙ sym (first-front (level_search hash code t) a (h - level))
-          ∙ ap (first_from (level_search hash code t) a) far,
+          ∙ first-before (level_search hash code t) a level (h - level) (h - a) _ _ (sym up) far
+          (above.find ∙ ap (node_find_at hash code t a) half ∙ level-one hash code t a (omega (arith, inv.0)))
+          inv.4,
     )
 
 pub returns : goal.returns

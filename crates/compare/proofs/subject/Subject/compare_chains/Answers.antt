@@ -1,5 +1,4 @@
-use Rattle.std.proofs.Common.{◌≡◌, ◌+◌, ◌-◌, sym, refl, ap, ◌∙◌, zero-add, arith}
-use Rattle.std.specs.Option.{option_or}
+use Rattle.std.proofs.Common.{◌≡◌, ◌-◌, sym, refl, ap, ◌∙◌, arith}
 use Rattle.strings.specs.Strings.{string_at}
 use Rattle.tree.specs.Meaning.{hash_of, code_of}
 use Rattle.tree.specs.Nodes.{raise}
@@ -7,7 +6,7 @@ use Rattle.tree.proofs.Laws.{one-time-none, one-time-more}
 use Rattle.growth.specs.Grown.{secret}
 use Rattle.compare.specs.Search.{height_search, hidden_find_at}
 use Rattle.compare.specs.Views.{traced_of}
-use Rattle.compare.proofs.Firsts.{first-none, first_more}
+use Rattle.compare.proofs.Firsts.{first-none, first-after}
 use Rattle.compare.proofs.subject.Subject.compare_chains.Goals as goal
 
 pub loop-k-init : goal.loop-k-init
@@ -33,8 +32,7 @@ loop-k-preserved g c =
     let k = c.loop-k.k in
     let inv = c.loop-k.invariant in
     let chain = c.compare_chain-chain.ensures in
-    let top : code.top ≡ code.top - 0 = omega arith in
-    let here : k ≡ 0 + k = sym (zero-add k) in (
+    let top : code.top ≡ code.top - 0 = omega arith in (
       omega arith,
       omega arith,
       one-time-more step code.top (λ j. 0) (secret hash t.origin t.leaf) 256 k c.loop-k.ours c.put_string.new.bytes inv.2
@@ -43,10 +41,6 @@ loop-k-preserved g c =
       one-time-more step code.top (code.digit t.stamp) (string_at t.row) 256 k c.loop-k.theirs c.put_string-in-loop-k.new.bytes inv.3
           (c.put_string-in-loop-k.ensures.here ∙ chain.theirs)
           c.put_string-in-loop-k.ensures.others,
-      c.or-broken.ensures
-          ∙ (λ i. option_or (inv.4 i) ((chain.broken ∙ ap (height_search hash code t) here) i))
-          ∙ sym (first_more (height_search hash code t) 0 k),
-      c.or-hidden.ensures
-          ∙ (λ i. option_or (inv.5 i) ((chain.hidden ∙ ap (hidden_find_at hash code t) here) i))
-          ∙ sym (first_more (hidden_find_at hash code t) 0 k),
+      c.or-broken.ensures ∙ first-after (height_search hash code t) k _ _ inv.4 chain.broken,
+      c.or-hidden.ensures ∙ first-after (hidden_find_at hash code t) k _ _ inv.5 chain.hidden,
     )

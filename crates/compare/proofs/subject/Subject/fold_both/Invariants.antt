@@ -1,7 +1,8 @@
-use Rattle.std.proofs.Common.{◌≡◌, ℕ, ◌+◌, ◌-◌, ◌^◌, ◌<◌, ◌≤◌, length}
+use Rattle.std.proofs.Common.{◌≡◌, ◌-◌, ◌≤◌, length}
 use Rattle.strings.specs.Strings.{string_at}
-use Rattle.tree.specs.Nodes.{join, node}
+use Rattle.tree.specs.Nodes.{join}
 use Rattle.compare.specs.Search.{first_from, depth_search}
+use Rattle.compare.proofs.Joined.{Level}
 use Rattle.compare.proofs.subject.Subject.fold_both.Given as goal
 
 abbrev pub invariant-loop-left : goal.invariant-loop-left
@@ -12,8 +13,8 @@ invariant-loop-left g l =
     (l.left ≤ levels)
     × (length l.ours ≡ 4096)
     × (length l.theirs ≡ 4096)
-    × ((k : ℕ) → k < 2 ^ l.left → string_at l.ours k ≡ node (join pair o.masks) (string_at l.initial.ours) (o.height + l.left) (levels - l.left) k)
-    × ((k : ℕ) → k < 2 ^ l.left → string_at l.theirs k ≡ node (join pair o.masks) (string_at l.initial.theirs) (o.height + l.left) (levels - l.left) k)
+    × Level (join pair o.masks) o.height levels (string_at l.initial.ours) l.left (string_at l.ours)
+    × Level (join pair o.masks) o.height levels (string_at l.initial.theirs) l.left (string_at l.theirs)
     × (l.found ≡ first_from (depth_search pair o.masks o.height l.self.leaf levels (string_at l.initial.ours) (string_at l.initial.theirs)) l.left (levels - l.left))
 
 abbrev pub decreases-loop-left : goal.decreases-loop-left
