@@ -12,6 +12,5 @@ returns g t c =
     let o = c.args.self.now.origin.now in
     let joined = c.joiner.ensures in
     c.parent.ensures
-    ∙ (λ i. join (hash.pair (joined.key i)) (joined.masks i) c.args.level c.grow_node-left.result c.grow_node-right.result)
-    ∙ (λ i. parent_at hash o c.args.level (c.grow_node-left.ensures i) (c.grow_node-right.ensures i))
+    ∙ (λ i. join (hash.pair (joined.key i)) (joined.masks i) c.args.level (c.grow_node-left.ensures i) (c.grow_node-right.ensures i))
     ∙ sym (node-up hash code o c.args.level c.args.position (omega arith))
