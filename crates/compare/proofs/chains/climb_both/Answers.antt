@@ -28,8 +28,8 @@ loop-e-preserved g c =
     let low = c.loop-e.auto.e in
     let more : (e - from) + 1 ≡ e + 1 - from = omega arith in
     let here : e ≡ from + (e - from) = omega arith in (
-      c.step_both-above.ensures.ours ∙ ap step inv.0 ∙ raise-more step (e - from) ours ∙ ap (λ n. raise step n ours) more,
-      c.step_both-above.ensures.theirs ∙ ap step inv.1 ∙ raise-more step (e - from) theirs ∙ ap (λ n. raise step n theirs) more,
+      cc (raise-more step (e - from) ours),
+      cc (raise-more step (e - from) theirs),
       c.or-find.ensures
           ∙ (λ i. option_or ((c.step_both-above.ensures.find ∙ (λ j. step_find step c.args.chain e (inv.0 j) (inv.1 j)) ∙ ap at here) i) (inv.2 i))
           ∙ sym (last_more at from (e - from))

@@ -24,13 +24,12 @@ loop-p-preserved g c =
     let their = c.children_at-their_children.ensures in
     let above = c.join_both-above.ensures in (
       joined-more (join pair masks level) ours (string_at c.loop-p.ours) (string_at c.put_string.new.bytes) p inv.0
-          (c.put_string.ensures.here ∙ above.ours ∙ (λ i. join pair masks level (our.left i) (our.right i)))
+          (cc)
           c.put_string.ensures.others,
       joined-more (join pair masks level) theirs (string_at c.loop-p.theirs) (string_at c.put_string-in-loop-p.new.bytes) p inv.1
-          (c.put_string-in-loop-p.ensures.here ∙ above.theirs ∙ (λ i. join pair masks level (their.left i) (their.right i)))
+          (cc)
           c.put_string-in-loop-p.ensures.others,
       c.or-found.ensures
           ∙ first-after at p _ _ inv.2
-          (above.find
-          ∙ (λ i. child_find pair masks level (c.args.first + p) ((our.left ∙ inv.0.1 (2 * p) (omega arith)) i) ((our.right ∙ inv.0.1 (2 * p + 1) (omega arith)) i) ((their.left ∙ inv.1.1 (2 * p) (omega arith)) i) ((their.right ∙ inv.1.1 (2 * p + 1) (omega arith)) i))),
+          (cc (inv.0.1 (2 * p) (omega arith), inv.0.1 (2 * p + 1) (omega arith), inv.1.1 (2 * p) (omega arith), inv.1.1 (2 * p + 1) (omega arith))),
     )

@@ -3,7 +3,6 @@ use Rattle.std.proofs.lemmas.Nat.{shr-shr}
 use Rattle.strings.specs.Strings.{string_at}
 use Rattle.tree.specs.Meaning.{hash_of, code_of}
 use Rattle.tree.specs.Nodes.{join}
-use Rattle.growth.specs.Grown.{parent_at}
 use Rattle.growth.specs.Shown.{sibling_of}
 use Rattle.growth.proofs.Paths.{shr-none, sibling-below}
 use Rattle.growth.proofs.Trees.{node-up}
@@ -51,12 +50,8 @@ returns g c =
     let half : b ≡ t.leaf / 2 ^ (h - a) = ap (λ n. n / 2) c.requires.place ∙ shr-shr t.leaf (h - (a + 1)) 1 ∙ ap (λ n. t.leaf / 2 ^ n) (omega arith) in
     let near : b / 2 ^ (a - h) ≡ t.leaf / 2 ^ (h - a) = shr-none b (a - h) (omega arith) ∙ half in
     let by = c.joiner-joiner.ensures in
-    let ol = c.turned-our_children.result.left in
-    let or = c.turned-our_children.result.right in
-    let tl = c.turned-their_children.result.left in
-    let tr = c.turned-their_children.result.right in
     record {
-      ours = c.join_both.ensures.ours ∙ (λ i. join (hash.pair (by.key i)) (by.masks i) a ol or) ∙ (λ i. parent_at hash t.origin a (l i) (r i)) ∙ sym (node-up hash code t.origin a b (omega arith));
-      theirs = c.join_both.ensures.theirs ∙ (λ i. join (hash.pair (by.key i)) (by.masks i) a tl tr) ∙ (λ i. parent_at hash t.origin a (l' i) (r' i)) ∙ sym (their-parent hash code t a b (omega arith) near);
-      find = c.join_both.ensures.find ∙ (λ i. child_find (hash.pair (by.key i)) (by.masks i) a b ol or tl tr) ∙ (λ i. child_find (hash.pair t.origin.hash_key) t.origin.masks a b (l i) (r i) (l' i) (r' i));
+      ours = c.join_both.ensures.ours ∙ (λ i. join (hash.pair (by.key i)) (by.masks i) a (l i) (r i)) ∙ sym (node-up hash code t.origin a b (omega arith));
+      theirs = c.join_both.ensures.theirs ∙ (λ i. join (hash.pair (by.key i)) (by.masks i) a (l' i) (r' i)) ∙ sym (their-parent hash code t a b (omega arith) near);
+      find = c.join_both.ensures.find ∙ (λ i. child_find (hash.pair (by.key i)) (by.masks i) a b (l i) (r i) (l' i) (r' i));
     }

@@ -3,7 +3,6 @@ use native.Mathlib.Nat.{div-eq_of_lt}
 use Rattle.std.proofs.lemmas.Nat.{shr-shr}
 use Rattle.tree.specs.Meaning.{hash_of, code_of}
 use Rattle.compare.specs.Search.{first_from, node_find_at, level_search}
-use Rattle.compare.specs.Sides.{our_node, their_node}
 use Rattle.compare.specs.Views.{traced_of}
 use Rattle.compare.proofs.Beside.{level-one}
 use Rattle.compare.proofs.Firsts.{first-none, first-before}
@@ -23,19 +22,10 @@ loop-level-init g c =
 
 pub climb_one-above-requires : goal.climb_one-above-requires
 climb_one-above-requires g c =
-    let hash = hash_of g.H.ChainHash g.H.TreeHash in
-    let code = code_of g.C.Code in
-    let t = traced_of c.args.self.now in
-    let level = c.loop-level.level in
     let some = c.loop-level-test.true in
     let inv = c.loop-level.invariant in
-    let up : level ≡ level - 1 + 1 = omega arith in
-    record {
-      under = omega (arith, inv.0);
-      place = inv.1 ∙ ap (λ a. t.leaf / 2 ^ (t.origin.height - a)) up;
-      ours = inv.2 ∙ ap (λ a. our_node hash code t a c.loop-level.position) up;
-      theirs = inv.3 ∙ ap (λ a. their_node hash code t a c.loop-level.position) up;
-    }
+    let up : c.loop-level.level ≡ c.loop-level.level - 1 + 1 = omega arith in
+    record { under = omega (arith, inv.0); place = cc; ours = cc; theirs = cc }
 
 pub loop-level-preserved : goal.loop-level-preserved
 loop-level-preserved g c =
@@ -63,16 +53,9 @@ loop-level-preserved g c =
 
 pub returns : goal.returns
 returns g c =
-    let hash = hash_of g.H.ChainHash g.H.TreeHash in
-    let code = code_of g.C.Code in
-    let t = traced_of c.args.self.now in
-    let h = t.origin.height in
+    let h = c.args.self.now.tree.origin.now.height in
+    let inv = c.loop-level.invariant in
     let root : c.loop-level.level ≡ 0 = omega arith in
     let all : h - c.loop-level.level ≡ h = omega (arith, root) in
-    let inv = c.loop-level.invariant in
-    let first : c.loop-level.position ≡ 0 = inv.1 ∙ ap (λ n. t.leaf / 2 ^ n) all ∙ div-eq_of_lt c.args.self.now.there in
-    record {
-      ours = inv.2 ∙ (λ i. our_node hash code t (root i) (first i));
-      theirs = inv.3 ∙ (λ i. their_node hash code t (root i) (first i));
-      find = inv.4 ∙ (λ i. first_from (level_search hash code t) (root i) (all i));
-    }
+    let first : c.loop-level.position ≡ 0 = cc (div-eq_of_lt c.args.self.now.there) in
+    record { ours = cc; theirs = cc; find = cc }

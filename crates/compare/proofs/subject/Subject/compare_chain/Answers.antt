@@ -3,8 +3,8 @@ use Rattle.tree.specs.Meaning.{hash_of, code_of}
 use Rattle.tree.specs.Nodes.{raise}
 use Rattle.growth.specs.Grown.{secret}
 use Rattle.growth.proofs.Leads.{raise-add}
-use Rattle.compare.specs.Search.{last_from, step_find, hidden_find, chain_find_at}
-use Rattle.compare.specs.Sides.{revealed_height, our_chain, their_chain}
+use Rattle.compare.specs.Search.{last_from, step_find, chain_find_at}
+use Rattle.compare.specs.Sides.{our_chain, their_chain}
 use Rattle.compare.specs.Views.{traced_of}
 use Rattle.compare.proofs.Firsts.{last-same}
 use Rattle.compare.proofs.subject.Subject.compare_chain.Goals as goal
@@ -24,8 +24,8 @@ returns g c =
     let rises : (e : ℕ) → raise step e (our_chain hash code t k d) ≡ our_chain hash code t k (e + d) = λ e. raise-add step e d (secret hash t.origin t.leaf k) in
     let end : (code.top - d) + d ≡ code.top = omega arith in
     record {
-      ours = c.climb_both-top.ensures.ours ∙ (λ i. raise step (top i - is i) (ours i)) ∙ rises (code.top - d) ∙ ap (our_chain hash code t k) end;
-      theirs = c.climb_both-top.ensures.theirs ∙ (λ i. raise step (top i - is i) (c.string_at-theirs.ensures i));
+      ours = cc (rises (code.top - d));
+      theirs = cc;
       broken =
           c.climb_both-top.ensures.find
           ∙ (λ i. last_from (λ e. step_find step k e (raise step (e - is i) (ours i)) (raise step (e - is i) (c.string_at-theirs.ensures i))) (is i) (top i - is i))
@@ -33,5 +33,5 @@ returns g c =
           (λ e below.
           let back : (d + e - d) + d ≡ d + e = omega arith in
           ap (λ s. step_find step k (d + e) s (their_chain hash code t k (d + e))) (rises (d + e - d) ∙ ap (our_chain hash code t k) back));
-      hidden = c.hidden-hidden.ensures ∙ (λ i. hidden_find k (is i) (revealed_height code t.entered k) (ours i));
+      hidden = cc;
     }

@@ -51,7 +51,6 @@ loop-left-preserved g c =
     let h = o.height in
     let parent = join (g.H.TreeHash.pairs o.hash_key) o.masks in
     let by = c.joiner-joiner.ensures in
-    let joins : join (g.H.TreeHash.pairs c.joiner-joiner.result.key.now) c.joiner-joiner.result.masks.now ≡ parent = λ i. join (g.H.TreeHash.pairs (by.key i)) (by.masks i) in
     let levels = g.C.Code.LEVELS in
     let ours : ℕ → List ℕ = string_at c.args.ours.now in
     let theirs : ℕ → List ℕ = string_at c.args.theirs.now in
@@ -72,8 +71,8 @@ loop-left-preserved g c =
       omega arith,
       omega arith,
       omega arith,
-      level-above parent h levels ours below row _ (omega arith) our (λ k lt. c.join_level-find.ensures.ours k (omega arith) ∙ ap (λ f. f (h + below) (row (2 * k)) (row (2 * k + 1))) joins),
-      level-above parent h levels theirs below row' _ (omega arith) their (λ k lt. c.join_level-find.ensures.theirs k (omega arith) ∙ ap (λ f. f (h + below) (row' (2 * k)) (row' (2 * k + 1))) joins),
+      level-above parent h levels ours below row _ (omega arith) our (λ k lt. cc (c.join_level-find.ensures.ours k (omega arith))),
+      level-above parent h levels theirs below row' _ (omega arith) their (λ k lt. cc (c.join_level-find.ensures.theirs k (omega arith))),
       c.or-found.ensures
           ∙ first-before depth below c.loop-left.left (levels - c.loop-left.left) (levels - below) _ _ (sym up) (omega arith)
           (c.join_level-find.ensures.find
