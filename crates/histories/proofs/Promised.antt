@@ -7,7 +7,7 @@ use Rattle.compare.specs.Found.{Found, node_break, chain_break, unrevealed, ours
 use Rattle.compare.specs.Search.{found}
 use Rattle.compare.specs.Sides.{Traced, revealed_height}
 use Rattle.compare.specs.declared.verdict.Verdict.{Verdict}
-use Rattle.compare.specs.declared.verdict.Verdict.TheVariants.{Ours, Node, Chain, Unrevealed}
+use Rattle.compare.specs.declared.verdict.Verdict.TheVariants.{Ours}
 use Rattle.compare.proofs.Breaks.{hidden-report, node-report-meets, node-report-differs, chain-report-meets, chain-report-differs}
 use Rattle.compare.proofs.Lawful.{Lawful}
 use Rattle.compare.proofs.Searches.{found_first, found-only}
@@ -31,11 +31,9 @@ use Rattle.histories.proofs.Once.{once}
 use Rattle.histories.proofs.Sound.{Sound}
 
 -- of the verdicts, ours alone has number 0
-says-ours : (v : Verdict) (i y z : ℕ) → verdict_numbers i v ≡ (0, y, z) → v ≡ Ours
-says-ours Ours i y z p = refl
-says-ours (Node f) i y z p = let first : ◌≡◌ {A = ℕ} 1 0 = ap (λ t. t.0) p in absurd (omega arith)
-says-ours (Chain f) i y z p = let first : ◌≡◌ {A = ℕ} 2 0 = ap (λ t. t.0) p in absurd (omega arith)
-says-ours (Unrevealed f) i y z p = let first : ◌≡◌ {A = ℕ} 3 0 = ap (λ t. t.0) p in absurd (omega arith)
+says-ours : (v : Verdict) (i : ℕ) → (verdict_numbers i v).0 ≡ 0 → v ≡ Ours
+says-ours Ours i p = refl
+says-ours v i p = absurd (omega arith)
 
 module _ (hash : Hash) (code : Code) (laws : Laws hash code) (o : Origin) (w : History) (s : Signing) (x : Sound hash code o w s) where
   abbrev law : Lawful hash code s.origin
@@ -92,7 +90,7 @@ module _ (hash : Hash) (code : Code) (laws : Laws hash code) (o : Origin) (w : H
     says-issued : Accepts hash code s stamp bytes i → SaysOurs (trace_answer hash code s stamp bytes) → Issued w i bytes stamp
     says-issued a says =
         let g = given hash code laws o w s x i stamp bytes all a in
-        let is = says-ours (found hash code t) i says.0 says.1 (ok_same (sym (answers g.verified) ∙ says.2)) in
+        let is = says-ours (found hash code t) i (ap (λ n. n.0) (ok_same (sym (answers g.verified) ∙ says.2))) in
         was-issued g (subst (Found hash code t) is (found_first hash code t))
 
     -- what is found of any other is a break
