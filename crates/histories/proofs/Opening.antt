@@ -7,7 +7,7 @@ use Rattle.verifier.specs.Reads.{KeyParts}
 use Rattle.verifier.specs.Rules.{open_rule}
 use Rattle.verifier.proofs.Facts.{open-from}
 use Rattle.verifier.proofs.Reading.{written-opens}
-use Rattle.histories.specs.Rules.{key_record}
+use Rattle.histories.specs.Rules.{key_record, own_key}
 use Rattle.histories.specs.States.{Signing}
 
 module _ (hash : Hash) (code : Code) (s : Signing) where
@@ -25,7 +25,7 @@ module _ (hash : Hash) (code : Code) (s : Signing) where
       }
 
   -- open refuses nothing on the key record
-  pub record-opens : (1 ≤ s.origin.height) × (s.origin.height ≤ 8) → code.levels ≤ 8 → length s.origin.hash_key ≡ 16 → length s.origin.masks ≡ 512 → length s.root ≡ 16 → open_rule hash.number code.number code.levels (key_record hash code s) ≡ Ok (record { bytes = key_record hash code s; height = s.origin.height })
+  pub record-opens : (1 ≤ s.origin.height) × (s.origin.height ≤ 8) → code.levels ≤ 8 → length s.origin.hash_key ≡ 16 → length s.origin.masks ≡ 512 → length s.root ≡ 16 → open_rule hash.number code.number code.levels (key_record hash code s) ≡ Ok (own_key hash code s)
   unfolding key_record
   record-opens tall few keyed masked rooted =
       open-from hash.number code.number code.levels (key_record hash code s)

@@ -60,6 +60,10 @@ unfoldable pub key_record : Hash → Code → Signing → List ℕ
 key_record hash code s =
     key_bytes hash.number code.number s.origin.height s.origin.hash_key (take (32 * (s.origin.height + code.levels)) s.origin.masks) s.root
 
+-- the signer's own key, as open reads its key record
+abbrev pub own_key : Hash → Code → Signing → Key
+own_key hash code s = record { bytes = key_record hash code s; height = s.origin.height }
+
 -- key: an output that is shorter than the record is refused and stays; else the record is at its start, and the rest stays
 abbrev pub key_answer : Code → Signing → List ℕ → Result ℕ Refusal
 key_answer code s out = if nat_lt (length out) (key_size code s) then Err Output else Ok (key_size code s)
@@ -80,11 +84,6 @@ release_record hash code s stamp = release_bytes s.next (shown_row hash code s.o
 -- the signer's root is that of the tree it was grown from
 abbrev pub Rooted : Hash → Code → Signing → Type 0
 Rooted hash code s = s.root ≡ node_at hash code s.origin 0 0
-
--- under the signer's key record, verify accepts the release record of the next leaf for this stamp, as that leaf
-abbrev pub Accepted : Hash → Code → Signing → List ℕ → Type 0
-Accepted hash code s stamp =
-    verify_rule hash code (record { bytes = key_record hash code s; height = s.origin.height }) stamp (release_record hash code s stamp) ≡ Ok s.next
 
 -- verify accepts a record for a stamp, as leaf i: open refuses nothing on the signer's key record, and under it verify refuses
 -- nothing on record and stamp, and answers i
@@ -126,10 +125,6 @@ skip_answer s n = if bad_skip s n then Err Skip else Ok n
 
 abbrev pub skip_state : Signing → ℕ → Signing
 skip_state s n = if bad_skip s n then s else record { origin = s.origin; root = s.root; next = n; rows = s.rows }
-
--- the signer's own key, as open reads its key record
-abbrev pub own_key : Hash → Code → Signing → Key
-own_key hash code s = record { bytes = key_record hash code s; height = s.origin.height }
 
 -- what trace compares: the strings of a record with leaf number i, for this stamp, and the leaf's row of the ledger
 abbrev pub traced_by : Signing → List ℕ → ℕ → List ℕ → Traced

@@ -1,7 +1,7 @@
 // Strings of 16 bytes: exclusive or, comparison, numbers as strings, and rows of strings in a buffer; single bytes, and bytes in hex.
 #![tactic(auto)]
 
-ghost use Rattle.std.specs.Prelude.{◌≡◌, ℕ, ◌+◌, ◌*◌, ◌^◌, ◌<◌, ◌≤◌, ◌++◌, length, take, drop, Decides, ◌≢◌, slice_index};
+ghost use Rattle.std.specs.Prelude.{◌≡◌, ℕ, ◌+◌, ◌*◌, ◌^◌, ◌<◌, ◌≤◌, ◌++◌, length, take, drop, ◌↔◌, IsTrue, ◌≢◌, slice_index};
 ghost use Rattle.std.specs.Str.{bytes_eq};
 ghost use Rattle.strings.specs.Strings.{xor, numeral, string_at, put_string};
 
@@ -27,7 +27,7 @@ pub fn mask<const N: usize>(string: &[u8; N], by: &[u8; N]) -> [u8; N]
 // Whether two strings are the same. Whoever compares strings calls this.
 pub fn same(left: &[u8; 16], right: &[u8; 16]) -> bool
     ensures value { result ≡ bytes_eq left.now right.now }
-    ensures decides { Decides result (left.now ≡ right.now) }
+    ensures decides { IsTrue result ↔ (left.now ≡ right.now) }
 {
     left == right
 }

@@ -1,7 +1,7 @@
 // The calls of a key in service.
 ghost use Rattle.std.specs.Prelude.{◌≡◌, ◌^◌, ◌<◌, replicate};
 ghost use Rattle.histories.specs.Histories.{serving, retired, sign, skip, retire, Continues};
-ghost use Rattle.histories.specs.Rules.{Accepted, Accepts, release_record, sign_answer, sign_state, sign_output, skip_answer, skip_state};
+ghost use Rattle.histories.specs.Rules.{Accepts, release_record, sign_answer, sign_state, sign_output, skip_answer, skip_state};
 ghost use Rattle.signer.specs.Views.{signing_of};
 ghost use Rattle.tree.specs.Meaning.{hash_of, code_of};
 
@@ -25,7 +25,6 @@ impl<H: TreeHash, C: Code> Signer<H, C> {
         ensures answer { result ≡ sign_answer (code_of C.Code) (signing_of self.old) out.old }
         ensures state { signing_of self.new ≡ sign_state (code_of C.Code) (signing_of self.old) stamp.now out.old }
         ensures output { out.new ≡ sign_output (hash_of H.ChainHash H.TreeHash.own) (code_of C.Code) (signing_of self.old) stamp.now out.old }
-        ensures accepted { self.old.next < 2 ^ self.old.origin.height → Accepted (hash_of H.ChainHash H.TreeHash.own) (code_of C.Code) (signing_of self.old) stamp.now }
         ensures accepts { self.old.next < 2 ^ self.old.origin.height → Accepts (hash_of H.ChainHash H.TreeHash.own) (code_of C.Code) (signing_of self.old) stamp.now (release_record (hash_of H.ChainHash H.TreeHash.own) (code_of C.Code) (signing_of self.old) stamp.now) self.old.next }
         ensures lived { Continues (hash_of H.ChainHash H.TreeHash.own) (code_of C.Code) (serving (signing_of self.old)) (sign stamp.now out.old result out.new) (serving (signing_of self.new)) }
         ensures wiped { work.new ≡ replicate 4096 0 }

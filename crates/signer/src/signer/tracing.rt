@@ -2,7 +2,7 @@
 ghost use Rattle.std.specs.Prelude.{◌≡◌, replicate, Ok};
 ghost use Rattle.histories.specs.Histories.{State, IsSigner, key, trace, Continues};
 ghost use Rattle.histories.specs.Promise.{Promised};
-ghost use Rattle.histories.specs.Rules.{key_record, key_answer, key_output, trace_answer, trace_report, Finds};
+ghost use Rattle.histories.specs.Rules.{key_record, own_key, key_answer, key_output, trace_answer, trace_report, Finds};
 ghost use Rattle.signer.specs.Views.{signing_of};
 ghost use Rattle.tree.specs.Meaning.{hash_of, code_of};
 ghost use Rattle.verifier.specs.Rules.{open_rule};
@@ -23,7 +23,7 @@ impl<H: TreeHash, C: Code> Signer<H, C> {
     pub fn key(&self, out: &mut [u8]) -> Result<usize, Refusal>
         ensures answer { result ≡ key_answer (code_of C.Code) (signing_of self.now) out.old }
         ensures output { out.new ≡ key_output (hash_of H.ChainHash H.TreeHash.own) (code_of C.Code) (signing_of self.now) out.old }
-        ensures opens { open_rule H.ChainHash.NUMBER C.Code.NUMBER C.Code.LEVELS (key_record (hash_of H.ChainHash H.TreeHash.own) (code_of C.Code) (signing_of self.now)) ≡ Ok (record { bytes = key_record (hash_of H.ChainHash H.TreeHash.own) (code_of C.Code) (signing_of self.now); height = (signing_of self.now).origin.height }) }
+        ensures opens { open_rule H.ChainHash.NUMBER C.Code.NUMBER C.Code.LEVELS (key_record (hash_of H.ChainHash H.TreeHash.own) (code_of C.Code) (signing_of self.now)) ≡ Ok (own_key (hash_of H.ChainHash H.TreeHash.own) (code_of C.Code) (signing_of self.now)) }
         ensures lived { (x : State) → IsSigner x (signing_of self.now) → Continues (hash_of H.ChainHash H.TreeHash.own) (code_of C.Code) x (key out.old result out.new) x }
     {
         let size = key_length::<C>(self.origin.height);

@@ -5,7 +5,7 @@ use Rattle.verifier.specs.declared.refusal.Refusal.{Refusal}
 use Rattle.verifier.specs.declared.refusal.Refusal.TheVariants.{Output}
 use Rattle.verifier.specs.Rules.{open_rule}
 use Rattle.histories.specs.Histories.{State, IsSigner, key, Continues}
-use Rattle.histories.specs.Rules.{key_size, key_record, key_answer, key_output}
+use Rattle.histories.specs.Rules.{key_size, key_record, own_key, key_answer, key_output}
 use Rattle.histories.specs.States.{Signing}
 use Rattle.signer.specs.Views.{signing_of}
 use Rattle.histories.proofs.Continuing.{key-continues}
@@ -28,7 +28,7 @@ module _ (g : given.Over) (c : Start g) where
   out = c.args.out.now
 
   -- what is ensured of an answer and an output that are by the rules
-  ends : (r : Result ℕ Refusal) (after : List ℕ) → r ≡ key_answer code s out → after ≡ key_output hash code s out → record { answer : r ≡ key_answer code s out; output : after ≡ key_output hash code s out; opens : open_rule hash.number code.number code.levels (key_record hash code s) ≡ Ok (record { bytes = key_record hash code s; height = s.origin.height }); lived : (x : State) → IsSigner x s → Continues hash code x (key out r after) x }
+  ends : (r : Result ℕ Refusal) (after : List ℕ) → r ≡ key_answer code s out → after ≡ key_output hash code s out → record { answer : r ≡ key_answer code s out; output : after ≡ key_output hash code s out; opens : open_rule hash.number code.number code.levels (key_record hash code s) ≡ Ok (own_key hash code s); lived : (x : State) → IsSigner x s → Continues hash code x (key out r after) x }
   ends r after answer output =
       let self = c.args.self.now in
       record {

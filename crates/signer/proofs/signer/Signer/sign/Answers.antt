@@ -5,10 +5,10 @@ use Rattle.tree.specs.Meaning.{Hash, Code, hash_of, code_of}
 use Rattle.verifier.specs.declared.refusal.Refusal.{Refusal}
 use Rattle.verifier.specs.declared.refusal.Refusal.TheVariants.{Spent, Output}
 use Rattle.histories.specs.Histories.{serving, sign, Continues}
-use Rattle.histories.specs.Rules.{release_record, Accepted, Accepts, sign_answer, sign_state, sign_output}
+use Rattle.histories.specs.Rules.{release_record, Accepts, sign_answer, sign_state, sign_output}
 use Rattle.histories.specs.States.{Signing}
 use Rattle.signer.specs.Views.{signing_of}
-use Rattle.histories.proofs.Accepting.{accepting, verifying}
+use Rattle.histories.proofs.Accepting.{accepting}
 use Rattle.histories.proofs.Continuing.{sign-continues}
 use Rattle.signer.proofs.Held.{signer-strings}
 use Rattle.signer.proofs.signer.Signer.sign.Given as given
@@ -36,7 +36,7 @@ module _ (g : given.Over) (c : Start g) where
   leaves = let tall = c.args.self.now.tall in one_shl s.origin.height 16 (omega arith)
 
   -- what is ensured of an answer, a signer and an output that are by the rules
-  ends : {W : Type 0} (r : Result (ℕ × ℕ) Refusal) (s' : Signing) (after : List ℕ) → r ≡ sign_answer code s out → s' ≡ sign_state code s stamp out → after ≡ sign_output hash code s stamp out → W → record { answer : r ≡ sign_answer code s out; state : s' ≡ sign_state code s stamp out; output : after ≡ sign_output hash code s stamp out; accepted : s.next < 2 ^ s.origin.height → Accepted hash code s stamp; accepts : s.next < 2 ^ s.origin.height → Accepts hash code s stamp (release_record hash code s stamp) s.next; lived : Continues hash code (serving s) (sign stamp out r after) (serving s'); wiped : W }
+  ends : {W : Type 0} (r : Result (ℕ × ℕ) Refusal) (s' : Signing) (after : List ℕ) → r ≡ sign_answer code s out → s' ≡ sign_state code s stamp out → after ≡ sign_output hash code s stamp out → W → record { answer : r ≡ sign_answer code s out; state : s' ≡ sign_state code s stamp out; output : after ≡ sign_output hash code s stamp out; accepts : s.next < 2 ^ s.origin.height → Accepts hash code s stamp (release_record hash code s stamp) s.next; lived : Continues hash code (serving s) (sign stamp out r after) (serving s'); wiped : W }
   unfolding release_record
   ends r s' after answer state output wiped =
       let self = c.args.self.now in
@@ -49,7 +49,6 @@ module _ (g : given.Over) (c : Start g) where
         answer = answer;
         state = state;
         output = output;
-        accepted = verifying hash code s strings self.tall few self.sized.2 s.next stamp many low self.rooted;
         accepts = accepting hash code s strings self.tall few self.sized.2 s.next stamp many low self.rooted;
         lived = sign-continues hash code s s' stamp out after r str answer state output;
         wiped = wiped;
