@@ -4,14 +4,7 @@ use Rattle.std.proofs.lemmas.Grind.{common_steps}
 use Rattle.std.proofs.Common.{◌≡◌, ℕ, ◌+◌, ◌-◌, ◌*◌, ◌<◌, ◌≤◌, List, [], ◌∷◌, ◌++◌, length, get_or, take, drop, set, replicate, sym, ap, ◌∙◌, arith}
 use Rattle.std.specs.List.{flat_map}
 use Rattle.std.proofs.Math.Seq.{take-add}
-use Rattle.strings.proofs.Laws.{part-more}
 use Rattle.std.proofs.lemmas.List.{append_assoc, take_more_set, drop-drop, drop-set-lt, drop-replicate, take-replicate}
-
--- a tag of 4 bytes and two strings, written one after another
-pub three-parts : (b₁ b₂ b₃ tag key s : List ℕ) → length key ≡ 16 → length s ≡ 16 → take 4 b₁ ≡ tag → take (4 + length key) b₂ ≡ take 4 b₁ ++ key → take (20 + length s) b₃ ≡ take 20 b₂ ++ s → take 36 b₃ ≡ tag ++ (key ++ s)
-three-parts b₁ b₂ b₃ tag key s lk ls e₁ e₂ e₃ =
-    part-more b₂ b₃ (tag ++ key) s 20 36 e₃ (part-more b₁ b₂ tag key 4 20 e₂ e₁ (omega arith)) (omega arith)
-    ∙ append_assoc tag key s
 
 -- pieces of 4 bytes, one for each element of ws
 pub pieces_more : (f : ℕ → List ℕ) (ws b b' part : List ℕ) (i : ℕ) → i < length ws → take (4 * i + length part) b' ≡ take (4 * i) b ++ part → take (4 * i) b ≡ flat_map f (take i ws) → part ≡ f (get_or ws i 0) → length part ≡ 4 → take (4 * (i + 1)) b' ≡ flat_map f (take (i + 1) ws)

@@ -122,12 +122,6 @@ filled_more f xs i x h is below k l = ap (λ y. get_or (set xs i y) k 0) is ∙ 
 abbrev pub Edited : (ℕ → ℕ) → List ℕ → List ℕ → ℕ → Type 0
 Edited f old new j = (length new ≡ length old) × ((k : ℕ) → k < j → get_or new k 0 ≡ f k) × ((k : ℕ) → j ≤ k → get_or new k 0 ≡ get_or old k 0)
 
-pub edited-none : (f : ℕ → ℕ) (old : List ℕ) → Edited f old old 0
-edited-none f old = (refl, λ k h. absurd (omega arith), λ k h. refl)
-
-pub edited-more : (f : ℕ → ℕ) (old new : List ℕ) (j v : ℕ) → j < length old → v ≡ f j → Edited f old new j → Edited f old (set new j v) (j + 1)
-edited-more f old new j v h e s = search rules
-
 pub edited-all : (f : ℕ → ℕ) (old new : List ℕ) (n j : ℕ) → length old ≡ n → n ≤ j → Edited f old new j → new ≡ map f (range_with_len 0 n)
 edited-all f old new n j e h s = fill_by_all f new n 0 (s.0 ∙ e) (λ k g. s.1 k (omega arith))
 
