@@ -1,7 +1,6 @@
 use Rattle.std.proofs.Common.{sym, ◌∙◌, arith}
 use Rattle.tree.specs.Meaning.{hash_of, code_of}
 use Rattle.tree.specs.Nodes.{join}
-use Rattle.growth.specs.Grown.{parent_at}
 use Rattle.growth.proofs.Trees.{node-up}
 use Rattle.growth.proofs.origin.Tree.+grow_node.Goals as goal
 
