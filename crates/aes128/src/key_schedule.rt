@@ -4,7 +4,7 @@ ghost use Rattle.aes128.specs.Schedule.{rcon, key_of_round};
 ghost use Rattle.aes128.specs.Pieces.{next_key};
 
 use crate::words::{column_of, from_columns, rot_word, sub_word};
-use strings::mask;
+use strings::xor;
 
 // The powers of x in the field, from x^0 to x^9.
 const ROUND_CONSTANTS: [u8; 10] = [0x01, 0x02, 0x04, 0x08, 0x10, 0x20, 0x40, 0x80, 0x1b, 0x36];
@@ -22,11 +22,11 @@ pub(crate) fn next_round_key(round_key: &[u8; 16], n: usize) -> [u8; 16]
     ensures { result ≡ next_key round_key.now (n + 1) }
 {
     let last = column_of(round_key, 3);
-    let temp = mask(&sub_word(&rot_word(&last)), &round_constant(n));
-    let a = mask(&column_of(round_key, 0), &temp);
-    let b = mask(&column_of(round_key, 1), &a);
-    let c = mask(&column_of(round_key, 2), &b);
-    let d = mask(&last, &c);
+    let temp = xor(&sub_word(&rot_word(&last)), &round_constant(n));
+    let a = xor(&column_of(round_key, 0), &temp);
+    let b = xor(&column_of(round_key, 1), &a);
+    let c = xor(&column_of(round_key, 2), &b);
+    let d = xor(&last, &c);
     from_columns(&a, &b, &c, &d)
 }
 

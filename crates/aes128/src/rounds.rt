@@ -8,7 +8,7 @@ ghost use Rattle.aes128.specs.Schedule.{sub_word};
 use crate::sbox::sub_byte;
 use crate::twice::sub_twice;
 use crate::words::{column_of, from_columns, sub_word};
-use strings::mask;
+use strings::xor;
 
 fn sub_bytes(state: &[u8; 16]) -> [u8; 16]
     ensures { result ≡ sub_bytes state.now }
@@ -68,12 +68,12 @@ fn mix_columns(state: &[u8; 16]) -> [u8; 16]
 pub(crate) fn full_round(state: &[u8; 16], round_key: &[u8; 16]) -> [u8; 16]
     ensures { result ≡ full_round state.now round_key.now }
 {
-    mask(&mix_columns(&shift_rows(state)), round_key)
+    xor(&mix_columns(&shift_rows(state)), round_key)
 }
 
 // The last round mixes no columns.
 pub(crate) fn final_round(state: &[u8; 16], round_key: &[u8; 16]) -> [u8; 16]
     ensures { result ≡ final_round state.now round_key.now }
 {
-    mask(&shift_rows(&sub_bytes(state)), round_key)
+    xor(&shift_rows(&sub_bytes(state)), round_key)
 }

@@ -5,7 +5,7 @@ ghost use Rattle.std.proofs.Common.{rules};
 
 use crate::cipher::encrypt;
 use hashes::{ChainHash, TreeHash};
-use strings::mask;
+use strings::xor;
 
 // The encryption of a string, with the string added to it.
 pub struct Aes128Hash;
@@ -22,7 +22,7 @@ impl ChainHash for Aes128Hash {
     ghost gives = { step-str };
 
     fn step(key: &[u8; 16], string: &[u8; 16]) -> [u8; 16] {
-        mask(&encrypt(key, string), string)
+        xor(&encrypt(key, string), string)
     }
 }
 

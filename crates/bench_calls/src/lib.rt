@@ -12,7 +12,7 @@ use aes128::Aes128Hash;
 use hashes::{ChainHash, TreeHash};
 use sha256::Sha256Hash;
 use strings::byte_at;
-use tree::chains::climb_chain;
+use tree::chains::raise_chain;
 
 mod calls;
 mod lives;
@@ -32,7 +32,7 @@ fn steps<H: ChainHash>(key: &[u8], string: &[u8], turns: u8, place: usize) -> u8
     let (Ok(key), Ok(string)) = (<&[u8; 16]>::try_from(key), <&[u8; 16]>::try_from(string)) else {
         return 0;
     };
-    byte_at(&climb_chain::<H>(key, string, turns), place)
+    byte_at(&raise_chain::<H>(key, string, turns), place)
 }
 
 // `turns` pairs, from `left` on: each of the last string and `right`.

@@ -33,7 +33,7 @@ fn step_both<H: ChainHash>(key: &[u8; 16], chain: u16, height: u8, at: &Sides) -
 }
 
 // Both sides of a chain raised from one height to another.
-fn climb_both<H: ChainHash>(key: &[u8; 16], chain: u16, from: u8, to: u8, start: &Sides) -> Compared
+fn raise_both<H: ChainHash>(key: &[u8; 16], chain: u16, from: u8, to: u8, start: &Sides) -> Compared
     requires { from ≤ to }
     ensures ours { result.sides.ours ≡ raise (H.ChainHash.steps key.now) (to - from) start.now.ours }
     ensures theirs { result.sides.theirs ≡ raise (H.ChainHash.steps key.now) (to - from) start.now.theirs }
@@ -116,7 +116,7 @@ impl<H: TreeHash, C: Code> Subject<'_, H, C> {
         let theirs = string_at(self.row, place);
         let hidden = hidden::<C>(&self.entered, chain, digit, &ours);
         let start = Sides { ours, theirs };
-        let top = climb_both::<H>(&origin.hash_key, chain, digit, C::TOP, &start);
+        let top = raise_both::<H>(&origin.hash_key, chain, digit, C::TOP, &start);
         Chain {
             top: top.sides,
             broken: top.find,

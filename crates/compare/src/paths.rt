@@ -28,8 +28,8 @@ impl<H: TreeHash, C: Code> Subject<'_, H, C> {
         let our_sibling = self.tree.grow_node(level + 1, sibling(position), work);
         let above = self.tree.origin.height as usize - level - 1;
         let their_sibling = string_at(self.row, C::COUNT + above);
-        let our_children = Children::turned(position, &at.ours, &our_sibling);
-        let their_children = Children::turned(position, &at.theirs, &their_sibling);
+        let our_children = Children::in_order(position, &at.ours, &our_sibling);
+        let their_children = Children::in_order(position, &at.theirs, &their_sibling);
         let joiner = self.tree.origin.joiner::<H>();
         join_both(&joiner, level, position / 2, &our_children, &their_children)
     }

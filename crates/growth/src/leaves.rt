@@ -7,16 +7,16 @@ ghost use Rattle.tree.specs.Meaning.{hash_of, code_of};
 use crate::{Origin, Tree};
 use codes::Code;
 use hashes::TreeHash;
-use strings::{number, put_string};
-use tree::chains::climb_chain;
+use strings::{numeral, put_string};
+use tree::chains::raise_chain;
 
 impl Origin {
     // The string of a leaf's chain at a height.
     pub fn chain_string<H: TreeHash>(&self, leaf: u16, chain: usize, height: u8) -> [u8; 16]
         ensures { result ≡ chain_string (hash_of H.ChainHash H.TreeHash.own) self.now leaf chain height }
     {
-        let secret = H::pair(&self.seed, &number(leaf as u128), &number(chain as u128));
-        climb_chain::<H>(&self.hash_key, &secret, height)
+        let secret = H::pair(&self.seed, &numeral(leaf as u128), &numeral(chain as u128));
+        raise_chain::<H>(&self.hash_key, &secret, height)
     }
 }
 

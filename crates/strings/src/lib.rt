@@ -13,7 +13,7 @@ pub use hex::Hex;
 pub const ZERO: [u8; 16] = [0; 16];
 
 // Exclusive or, byte by byte.
-pub fn mask<const N: usize>(string: &[u8; N], by: &[u8; N]) -> [u8; N]
+pub fn xor<const N: usize>(string: &[u8; N], by: &[u8; N]) -> [u8; N]
     ensures value { result ≡ xor string.now by.now }
     ensures back { xor result by.now ≡ string.now }
 {
@@ -33,7 +33,7 @@ pub fn same(left: &[u8; 16], right: &[u8; 16]) -> bool
 }
 
 // A number written as a string, little-endian.
-pub fn number(n: u128) -> [u8; 16]
+pub fn numeral(n: u128) -> [u8; 16]
     ensures value { result ≡ numeral n }
     ensures known { (m : ℕ) → m < 2 ^ 128 → numeral m ≡ result → m ≡ n }
 {

@@ -8,7 +8,7 @@ use hashes::ChainHash;
 use strings::{put_string, string_at};
 
 // The string `times` steps up the chain from `string`.
-pub fn climb_chain<H: ChainHash>(key: &[u8; 16], string: &[u8; 16], times: u8) -> [u8; 16]
+pub fn raise_chain<H: ChainHash>(key: &[u8; 16], string: &[u8; 16], times: u8) -> [u8; 16]
     ensures { result ≡ raise (H.ChainHash.steps key.now) times string.now }
 {
     let mut at = *string;
@@ -19,7 +19,7 @@ pub fn climb_chain<H: ChainHash>(key: &[u8; 16], string: &[u8; 16], times: u8) -
 }
 
 // The top of chain number `place`, from its string at the height of the stamp's digit.
-pub fn climb_to_top<H: ChainHash, C: Code>(
+pub fn raise_to_top<H: ChainHash, C: Code>(
     key: &[u8; 16],
     stamp: &[u8; 16],
     place: usize,
@@ -27,7 +27,7 @@ pub fn climb_to_top<H: ChainHash, C: Code>(
 ) -> [u8; 16]
     ensures { result ≡ raise (H.ChainHash.steps key.now) (C.Code.TOP - C.Code.digits stamp.now place) string.now }
 {
-    climb_chain::<H>(key, string, C::TOP - C::digit(stamp, place))
+    raise_chain::<H>(key, string, C::TOP - C::digit(stamp, place))
 }
 
 // Fills a row with the one-time strings of a leaf, from the strings of its chains at the heights of the stamp's digits.
@@ -42,7 +42,7 @@ pub fn one_time_strings<H: ChainHash, C: Code>(
 {
     *row = [0; 4096];
     for k in 0..C::COUNT {
-        let top = climb_to_top::<H, C>(key, stamp, k, &string_at(shown, k));
+        let top = raise_to_top::<H, C>(key, stamp, k, &string_at(shown, k));
         put_string(row, k, &top);
     }
 }

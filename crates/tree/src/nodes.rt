@@ -5,7 +5,7 @@ ghost use Rattle.tree.specs.Nodes.{join, node};
 
 use hashes::TreeHash;
 use std::marker::PhantomData;
-use strings::{mask, put_string, string_at};
+use strings::{put_string, string_at, xor};
 
 // Two children of one parent.
 #[derive(Clone, Copy)]
@@ -16,7 +16,7 @@ pub struct Children {
 
 impl Children {
     // A node at a position and its sibling, as children of their parent.
-    pub fn turned(position: u16, at: &[u8; 16], sibling: &[u8; 16]) -> Children
+    pub fn in_order(position: u16, at: &[u8; 16], sibling: &[u8; 16]) -> Children
         ensures left { result.left ≡ (if nat_eq (position % 2) 0 then at.now else sibling.now) }
         ensures right { result.right ≡ (if nat_eq (position % 2) 0 then sibling.now else at.now) }
     {
@@ -45,8 +45,8 @@ impl<H: TreeHash> Joiner<'_, H> {
         ensures left { result.left ≡ xor children.now.left (string_at self.now.masks.now (2 * level)) }
         ensures right { result.right ≡ xor children.now.right (string_at self.now.masks.now (2 * level + 1)) }
     {
-        let left = mask(&children.left, &string_at(self.masks, 2 * level));
-        let right = mask(&children.right, &string_at(self.masks, 2 * level + 1));
+        let left = xor(&children.left, &string_at(self.masks, 2 * level));
+        let right = xor(&children.right, &string_at(self.masks, 2 * level + 1));
         Children { left, right }
     }
 

@@ -19,7 +19,7 @@ impl<H: TreeHash> Joiner<'_, H> {
         requires { 32 * level + 32 ≤ length self.now.masks.now }
         ensures { result ≡ above (join (H.TreeHash.pairs self.now.key.now) self.now.masks.now) level position at.now sibling.now }
     {
-        let children = Children::turned(position, at, sibling);
+        let children = Children::in_order(position, at, sibling);
         self.parent(level, &children.left, &children.right)
     }
 

@@ -11,7 +11,7 @@ loop-n-init c =
     let key = c.args.key.now in
     let block = c.args.block.now in
     let first = sym (key_of_round-none key c.told-key) in
-    (first, c.mask-state.ensures.value ∙ ap (xor block) first ∙ sym (rounds-none key block))
+    (first, c.xor-state.ensures.value ∙ ap (xor block) first ∙ sym (rounds-none key block))
 
 pub loop-n-preserved : goal.loop-n-preserved
 loop-n-preserved c =

@@ -8,5 +8,5 @@ unfolding full_round
 returns c =
     let state = c.args.state.now in
     let either : sub_bytes (shift_rows state) ≡ shift_rows (sub_bytes state) = refl in
-    c.mask.ensures.value
+    c.xor.ensures.value
     ∙ ap (λ s. xor s c.args.round_key.now) (c.mix_columns.ensures ∙ ap (λ s. mix_columns (sub_bytes s)) c.shift_rows.ensures ∙ ap mix_columns either)

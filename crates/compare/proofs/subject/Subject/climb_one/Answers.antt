@@ -43,10 +43,10 @@ returns g c =
     let level : h - e ≡ a + 1 = omega arith in
     let their-beside : c.string_at-their_sibling.result ≡ theirs (sibling_of position) =
     c.string_at-their_sibling.ensures ∙ ap (string_at t.row) place ∙ sym (their-sibling hash code t e (omega arith)) ∙ (λ i. their_node hash code t (level i) (sibling_of (sym c.requires.place i))) in
-    let l = c.turned-our_children.ensures.left ∙ left-child ours position _ _ c.requires.ours our-beside in
-    let r = c.turned-our_children.ensures.right ∙ right_child ours position _ _ c.requires.ours our-beside in
-    let l' = c.turned-their_children.ensures.left ∙ left-child theirs position _ _ c.requires.theirs their-beside in
-    let r' = c.turned-their_children.ensures.right ∙ right_child theirs position _ _ c.requires.theirs their-beside in
+    let l = c.in_order-our_children.ensures.left ∙ left-child ours position _ _ c.requires.ours our-beside in
+    let r = c.in_order-our_children.ensures.right ∙ right_child ours position _ _ c.requires.ours our-beside in
+    let l' = c.in_order-their_children.ensures.left ∙ left-child theirs position _ _ c.requires.theirs their-beside in
+    let r' = c.in_order-their_children.ensures.right ∙ right_child theirs position _ _ c.requires.theirs their-beside in
     let half : b ≡ t.leaf / 2 ^ (h - a) = ap (λ n. n / 2) c.requires.place ∙ shr-shr t.leaf (h - (a + 1)) 1 ∙ ap (λ n. t.leaf / 2 ^ n) (omega arith) in
     let near : b / 2 ^ (a - h) ≡ t.leaf / 2 ^ (h - a) = shr-none b (a - h) (omega arith) ∙ half in
     let by = c.joiner-joiner.ensures in

@@ -27,7 +27,7 @@ returns g c =
       ours = cc (rises (code.top - d));
       theirs = cc;
       broken =
-          c.climb_both-top.ensures.find
+          c.raise_both-top.ensures.find
           ∙ (λ i. last_from (λ e. step_find step k e (raise step (e - is i) (ours i)) (raise step (e - is i) (c.string_at-theirs.ensures i))) (is i) (top i - is i))
           ∙ last-same _ (chain_find_at hash code t k) d (code.top - d)
           (λ e below.

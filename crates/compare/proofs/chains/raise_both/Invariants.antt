@@ -1,7 +1,7 @@
 use Rattle.std.proofs.Common.{◌≡◌, ◌-◌}
 use Rattle.tree.specs.Nodes.{raise}
 use Rattle.compare.specs.Search.{last_from, step_find}
-use Rattle.compare.proofs.chains.climb_both.Given as goal
+use Rattle.compare.proofs.chains.raise_both.Given as goal
 
 abbrev pub invariant-loop-e : goal.invariant-loop-e
 invariant-loop-e g l =

@@ -5,7 +5,7 @@ use Rattle.tree.proofs.Laws.{raise-none, raise-more}
 use Rattle.compare.specs.Search.{last_from, step_find}
 use Rattle.compare.specs.declared.verdict.Find.{Find}
 use Rattle.compare.proofs.Firsts.{last_none, last_more}
-use Rattle.compare.proofs.chains.climb_both.Goals as goal
+use Rattle.compare.proofs.chains.raise_both.Goals as goal
 
 pub loop-e-init : goal.loop-e-init
 loop-e-init g c =

@@ -1,7 +1,7 @@
 use Rattle.std.proofs.Common.{◌≡◌, ◌∙◌, rules}
 use Rattle.strings.specs.Strings.{numeral}
 use Rattle.strings.proofs.Laws.{numeral-injective}
-use Rattle.strings.proofs.number.Goals as goal
+use Rattle.strings.proofs.numeral.Goals as goal
 
 pub returns : goal.returns
 unfolding numeral

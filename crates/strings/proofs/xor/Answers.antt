@@ -2,7 +2,7 @@ use Rattle.std.proofs.Common.{sym, ap, ◌∙◌, arith}
 use Rattle.std.proofs.lemmas.List.{ext_get_or}
 use Rattle.strings.specs.Strings.{xor}
 use Rattle.strings.proofs.Laws.{length-xor, get_or-xor, xor-back}
-use Rattle.strings.proofs.mask.Goals as goal
+use Rattle.strings.proofs.xor.Goals as goal
 
 pub returns : goal.returns
 returns g c =

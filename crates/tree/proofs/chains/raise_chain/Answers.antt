@@ -1,6 +1,6 @@
 use Rattle.std.proofs.Common.{sym, ap, ◌∙◌}
 use Rattle.tree.proofs.Laws.{raise-none, raise-more}
-use Rattle.tree.proofs.chains.climb_chain.Goals as goal
+use Rattle.tree.proofs.chains.raise_chain.Goals as goal
 
 pub loop-init : goal.loop-init
 loop-init g c = sym (raise-none _ _)
