@@ -1,4 +1,5 @@
-// The cipher.
+//! The cipher.
+
 ghost use Rattle.std.specs.Prelude.{◌≡◌};
 ghost use Rattle.aes128.specs.Cipher.{aes128_of};
 
@@ -6,7 +7,7 @@ use crate::key_schedule::next_round_key;
 use crate::rounds::{final_round, full_round};
 use strings::xor;
 
-// Encrypts one block. The key schedule is made along the rounds.
+/// Encrypts one block. The key schedule is made along the rounds.
 pub fn encrypt(key: &[u8; 16], block: &[u8; 16]) -> [u8; 16]
     ensures { result ≡ aes128_of key.now block.now }
 {

@@ -1,4 +1,5 @@
-// The key schedule, one round key after the other.
+//! The key schedule, one round key after the other.
+
 ghost use Rattle.std.specs.Prelude.{◌≡◌, ◌+◌, ◌<◌};
 ghost use Rattle.aes128.specs.Schedule.{rcon, key_of_round};
 ghost use Rattle.aes128.specs.Pieces.{next_key};
@@ -16,7 +17,7 @@ fn round_constant(n: usize) -> [u8; 4]
     [ROUND_CONSTANTS[n], 0, 0, 0]
 }
 
-// The key of round n + 1, from that of round n.
+/// The key of round n + 1, from that of round n.
 pub(crate) fn next_round_key(round_key: &[u8; 16], n: usize) -> [u8; 16]
     requires { n < 10 }
     ensures { result ≡ next_key round_key.now (n + 1) }
@@ -30,7 +31,7 @@ pub(crate) fn next_round_key(round_key: &[u8; 16], n: usize) -> [u8; 16]
     from_columns(&a, &b, &c, &d)
 }
 
-// The key of round 10.
+/// The key of round 10.
 pub fn last_round_key(key: &[u8; 16]) -> [u8; 16]
     ensures { result ≡ key_of_round key.now 10 }
 {

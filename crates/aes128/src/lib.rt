@@ -1,5 +1,5 @@
-// AES-128 of FIPS 197, and the tree hash that is made from it.
-// Bytes are substituted by a table, so the places that are read depend on the key and the block: no contract speaks of time.
+//! AES-128 of FIPS 197, and the tree hash that is made from it.
+//! Bytes are substituted by a table, so the places that are read depend on the key and the block: no contract speaks of time.
 #![tactic(auto)]
 
 mod cipher;

@@ -1,4 +1,5 @@
-// The steps of a round.
+//! The steps of a round.
+
 ghost use Rattle.std.specs.Prelude.{◌≡◌};
 ghost use Rattle.aes128.specs.Field.{sub};
 ghost use Rattle.aes128.specs.State.{sub_bytes, shift_rows, mixed, mix_columns, full_round, final_round};
@@ -64,14 +65,14 @@ fn mix_columns(state: &[u8; 16]) -> [u8; 16]
     )
 }
 
-// Bytes may be substituted before or after the rows are shifted.
+/// Bytes may be substituted before or after the rows are shifted.
 pub(crate) fn full_round(state: &[u8; 16], round_key: &[u8; 16]) -> [u8; 16]
     ensures { result ≡ full_round state.now round_key.now }
 {
     xor(&mix_columns(&shift_rows(state)), round_key)
 }
 
-// The last round mixes no columns.
+/// The last round mixes no columns.
 pub(crate) fn final_round(state: &[u8; 16], round_key: &[u8; 16]) -> [u8; 16]
     ensures { result ≡ final_round state.now round_key.now }
 {

@@ -1,4 +1,5 @@
-// The substitution of bytes, by a table.
+//! The substitution of bytes, by a table.
+
 ghost use Rattle.std.specs.Prelude.{◌≡◌};
 ghost use Rattle.aes128.specs.Field.{sub};
 
@@ -21,7 +22,7 @@ const SBOX: [u8; 256] = [
     0x8c, 0xa1, 0x89, 0x0d, 0xbf, 0xe6, 0x42, 0x68, 0x41, 0x99, 0x2d, 0x0f, 0xb0, 0x54, 0xbb, 0x16,
 ];
 
-// SubBytes at one byte. The place that is read depends on the byte, which may be secret.
+/// SubBytes at one byte. The place that is read depends on the byte, which may be secret.
 pub(crate) fn sub_byte(b: u8) -> u8
     ensures { result ≡ sub b }
 {

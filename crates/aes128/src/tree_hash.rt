@@ -1,4 +1,5 @@
-// The tree hash that is made from the cipher.
+//! The tree hash that is made from the cipher.
+
 ghost use Rattle.aes128.specs.Cipher.{aes_step, aes_pair};
 ghost use Rattle.aes128.specs.Bounds.{step-str, pair-str};
 ghost use Rattle.std.proofs.Common.{rules};
@@ -7,7 +8,7 @@ use crate::cipher::encrypt;
 use hashes::{ChainHash, TreeHash};
 use strings::xor;
 
-// The encryption of a string, with the string added to it.
+/// The encryption of a string, with the string added to it.
 pub struct Aes128Hash;
 
 impl ChainHash for Aes128Hash {

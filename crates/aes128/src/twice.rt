@@ -1,4 +1,5 @@
-// Twice a substituted byte, by a table: the columns are mixed by it.
+//! Twice a substituted byte, by a table: the columns are mixed by it.
+
 ghost use Rattle.std.specs.Prelude.{◌≡◌};
 ghost use Rattle.aes128.specs.Field.{times_x, sub};
 
@@ -21,7 +22,7 @@ const TWICE: [u8; 256] = [
     0x03, 0x59, 0x09, 0x1a, 0x65, 0xd7, 0x84, 0xd0, 0x82, 0x29, 0x5a, 0x1e, 0x7b, 0xa8, 0x6d, 0x2c,
 ];
 
-// x times the substituted byte. The place that is read depends on the byte, which may be secret.
+/// x times the substituted byte. The place that is read depends on the byte, which may be secret.
 pub(crate) fn sub_twice(b: u8) -> u8
     ensures { result ≡ times_x (sub b) }
 {

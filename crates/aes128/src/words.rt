@@ -1,4 +1,5 @@
-// Words of four bytes: the columns of a state, and the words of the key schedule.
+//! Words of four bytes: the columns of a state, and the words of the key schedule.
+
 ghost use Rattle.std.specs.Prelude.{◌≡◌, ◌<◌};
 ghost use Rattle.aes128.specs.Schedule.{rot_word, sub_word};
 ghost use Rattle.aes128.specs.State.{column};
@@ -6,7 +7,7 @@ ghost use Rattle.aes128.specs.Pieces.{columns};
 
 use crate::sbox::sub_byte;
 
-// The column c of a state or a round key.
+/// The column c of a state or a round key.
 pub(crate) fn column_of(state: &[u8; 16], c: usize) -> [u8; 4]
     requires { c < 4 }
     ensures { result ≡ column state.now c }

@@ -1,5 +1,6 @@
-// The calls on whole keys. Hash and code go by their numbers, of which an unknown one is refused with 8. Nothing of a key stays
-// between two calls: each lives a key's life from its source on.
+//! The calls on whole keys. Hash and code go by their numbers, of which an unknown one is refused with 8. Nothing of a key stays
+//! between two calls: each lives a key's life from its source on.
+
 ghost use Rattle.std.specs.Prelude.{◌≡◌, Err};
 ghost use Rattle.bench_calls.specs.Lives.{Numbered, numbered, numbered_output, one_reply, two_reply, three_reply, verified, grown, grown_node, keyed, keyed_output, signed, signed_output, traced, traced_report};
 ghost use Rattle.schemes.specs.Names.{scheme_numbered};
@@ -16,12 +17,13 @@ fn run_numbered<A, T: Task<Output = Result<A, Refusal>>>(
     code: u8,
     task: &mut T,
 ) -> Result<A, Refusal>
-    ensures { Numbered (scheme_numbered hash code) (λ e. (result ≡ Err e) × (task.new ≡ task.old)) (λ h c. T.gives task.old h c result task.new) }
+    ensures { Numbered (scheme_numbered hash code) (λ e. (result ≡ Err e) × (task.new ≡ task.old))
+        (λ h c. T.gives task.old h c result task.new) }
 {
     Scheme::numbered(hash, code)?.run(task)
 }
 
-// Opens a key record, and verifies a release record under it: the leaf.
+/// Opens a key record, and verifies a release record under it: the leaf.
 #[unsafe(no_mangle)]
 pub extern "C" fn verify_release(
     hash: u8,
@@ -30,7 +32,8 @@ pub extern "C" fn verify_release(
     stamp: &[u8; 16],
     record: &[u8],
 ) -> Reply
-    ensures { result ≡ one_reply (numbered hash code (λ h c. verified h c key.now stamp.now «record».now)) }
+    ensures { result ≡ one_reply (numbered hash code
+        (λ h c. verified h c key.now stamp.now «record».now)) }
 {
     let mut task = Verify {
         key,
@@ -40,7 +43,7 @@ pub extern "C" fn verify_release(
     Reply::from(run_numbered(hash, code, &mut task))
 }
 
-// Begins a key and grows leaves: whether a node is held at the level, and its position; `node` is then its string.
+/// Begins a key and grows leaves: whether a node is held at the level, and its position; `node` is then its string.
 #[unsafe(no_mangle)]
 pub extern "C" fn grow_leaves(
     hash: u8,
@@ -50,8 +53,10 @@ pub extern "C" fn grow_leaves(
     level: u8,
     node: &mut [u8; 16],
 ) -> Reply
-    ensures answer { result ≡ two_reply (numbered hash code (λ h c. grown h c source.now leaves level)) }
-    ensures output { node.new ≡ numbered_output hash code node.old (λ h c. grown_node h c source.now leaves level node.old) }
+    ensures answer { result ≡ two_reply (numbered hash code
+        (λ h c. grown h c source.now leaves level)) }
+    ensures output { node.new ≡ numbered_output hash code node.old
+        (λ h c. grown_node h c source.now leaves level node.old) }
 {
     let mut task = Grow {
         source,
@@ -62,7 +67,7 @@ pub extern "C" fn grow_leaves(
     Reply::from(run_numbered(hash, code, &mut task))
 }
 
-// Begins and finishes a key, and writes its key record `turns` times and once more: the record's length.
+/// Begins and finishes a key, and writes its key record `turns` times and once more: the record's length.
 #[unsafe(no_mangle)]
 pub extern "C" fn write_key(
     hash: u8,
@@ -71,14 +76,16 @@ pub extern "C" fn write_key(
     turns: u32,
     out: &mut [u8],
 ) -> Reply
-    ensures answer { result ≡ one_reply (numbered hash code (λ h c. keyed h c source.now turns out.old)) }
-    ensures output { out.new ≡ numbered_output hash code out.old (λ h c. keyed_output h c source.now turns out.old) }
+    ensures answer { result ≡ one_reply (numbered hash code
+        (λ h c. keyed h c source.now turns out.old)) }
+    ensures output { out.new ≡ numbered_output hash code out.old
+        (λ h c. keyed_output h c source.now turns out.old) }
 {
     let mut task = Key { source, turns, out };
     Reply::from(run_numbered(hash, code, &mut task))
 }
 
-// Begins and finishes a key, skips to a leaf where it can, and signs: the record's length, and the leaf.
+/// Begins and finishes a key, skips to a leaf where it can, and signs: the record's length, and the leaf.
 #[unsafe(no_mangle)]
 pub extern "C" fn sign_release(
     hash: u8,
@@ -88,8 +95,10 @@ pub extern "C" fn sign_release(
     stamp: &[u8; 16],
     out: &mut [u8],
 ) -> Reply
-    ensures answer { result ≡ two_reply (numbered hash code (λ h c. signed h c source.now leaf out.old)) }
-    ensures output { out.new ≡ numbered_output hash code out.old (λ h c. signed_output h c source.now leaf stamp.now out.old) }
+    ensures answer { result ≡ two_reply (numbered hash code
+        (λ h c. signed h c source.now leaf out.old)) }
+    ensures output { out.new ≡ numbered_output hash code out.old
+        (λ h c. signed_output h c source.now leaf stamp.now out.old) }
 {
     let mut task = Sign {
         source,
@@ -100,8 +109,8 @@ pub extern "C" fn sign_release(
     Reply::from(run_numbered(hash, code, &mut task))
 }
 
-// Begins and finishes a key, skips to a leaf where it can, signs the stamp `spent` where it can, retires the key, and traces a
-// record for `stamp`: the verdict and its two numbers.
+/// Begins and finishes a key, skips to a leaf where it can, signs the stamp `spent` where it can, retires the key, and traces a
+/// record for `stamp`: the verdict and its two numbers.
 #[unsafe(no_mangle)]
 pub extern "C" fn trace_release(
     hash: u8,
@@ -113,8 +122,10 @@ pub extern "C" fn trace_release(
     record: &[u8],
     report: &mut [u8; 64],
 ) -> Reply
-    ensures answer { result ≡ three_reply (numbered hash code (λ h c. traced h c source.now leaf spent.now stamp.now «record».now)) }
-    ensures output { report.new ≡ numbered_output hash code report.old (λ h c. traced_report h c source.now leaf spent.now stamp.now «record».now report.old) }
+    ensures answer { result ≡ three_reply (numbered hash code
+        (λ h c. traced h c source.now leaf spent.now stamp.now «record».now)) }
+    ensures output { report.new ≡ numbered_output hash code report.old
+        (λ h c. traced_report h c source.now leaf spent.now stamp.now «record».now report.old) }
 {
     let mut task = Trace {
         source,

@@ -1,6 +1,6 @@
-// What programs in Rust or C call: bench/ measures and compares by it. `calls` has whole keys; here are chains of steps and of pairs.
-// Each call takes the key and the strings as slices, and answers one byte of the last string: 0 where a slice has not 16 bytes,
-// or the string has no byte at the place.
+//! What programs in Rust or C call: bench/ measures and compares by it. `calls` has whole keys; here are chains of steps and of pairs.
+//! Each call takes the key and the strings as slices, and answers one byte of the last string: 0 where a slice has not 16 bytes,
+//! or the string has no byte at the place.
 #![tactic(auto)]
 
 ghost use Rattle.std.specs.Prelude.{◌≡◌, length, ◌≢◌, slice_index};
@@ -26,7 +26,8 @@ pub use sizes::type_size;
 pub use source::Source;
 
 fn steps<H: ChainHash>(key: &[u8], string: &[u8], turns: u8, place: usize) -> u8
-    ensures answered { length key.now ≡ 16 → length string.now ≡ 16 → result ≡ slice_index (raise (H.ChainHash.steps key.now) turns string.now) place }
+    ensures answered { length key.now ≡ 16 → length string.now ≡ 16 →
+        result ≡ slice_index (raise (H.ChainHash.steps key.now) turns string.now) place }
     ensures refused { (length key.now ≡ 16 → length string.now ≢ 16) → result ≡ 0 }
 {
     let (Ok(key), Ok(string)) = (<&[u8; 16]>::try_from(key), <&[u8; 16]>::try_from(string)) else {
@@ -47,8 +48,11 @@ fn join_on<H: TreeHash>(key: &[u8; 16], left: &[u8; 16], right: &[u8; 16], turns
 }
 
 fn pairs<H: TreeHash>(key: &[u8], left: &[u8], right: &[u8], turns: u8, place: usize) -> u8
-    ensures answered { length key.now ≡ 16 → length left.now ≡ 16 → length right.now ≡ 16 → result ≡ slice_index (raise (λ s. H.TreeHash.pairs key.now s right.now) turns left.now) place }
-    ensures refused { (length key.now ≡ 16 → length left.now ≡ 16 → length right.now ≢ 16) → result ≡ 0 }
+    ensures answered { length key.now ≡ 16 → length left.now ≡ 16 → length right.now ≡ 16 →
+        result ≡ slice_index (raise (λ s. H.TreeHash.pairs key.now s right.now) turns left.now)
+        place }
+    ensures refused { (length key.now ≡ 16 → length left.now ≡ 16 → length right.now ≢ 16) →
+        result ≡ 0 }
 {
     let (Ok(key), Ok(left)) = (<&[u8; 16]>::try_from(key), <&[u8; 16]>::try_from(left)) else {
         return 0;
@@ -61,7 +65,8 @@ fn pairs<H: TreeHash>(key: &[u8], left: &[u8], right: &[u8], turns: u8, place: u
 
 #[unsafe(no_mangle)]
 pub extern "C" fn sha256_steps(key: &[u8], string: &[u8], turns: u8, place: usize) -> u8
-    ensures answered { length key.now ≡ 16 → length string.now ≡ 16 → result ≡ slice_index (raise (sha_step key.now) turns string.now) place }
+    ensures answered { length key.now ≡ 16 → length string.now ≡ 16 →
+        result ≡ slice_index (raise (sha_step key.now) turns string.now) place }
     ensures refused { (length key.now ≡ 16 → length string.now ≢ 16) → result ≡ 0 }
 {
     steps::<Sha256Hash>(key, string, turns, place)
@@ -69,15 +74,18 @@ pub extern "C" fn sha256_steps(key: &[u8], string: &[u8], turns: u8, place: usiz
 
 #[unsafe(no_mangle)]
 pub extern "C" fn sha256_pairs(key: &[u8], left: &[u8], right: &[u8], turns: u8, place: usize) -> u8
-    ensures answered { length key.now ≡ 16 → length left.now ≡ 16 → length right.now ≡ 16 → result ≡ slice_index (raise (λ s. sha_pair key.now s right.now) turns left.now) place }
-    ensures refused { (length key.now ≡ 16 → length left.now ≡ 16 → length right.now ≢ 16) → result ≡ 0 }
+    ensures answered { length key.now ≡ 16 → length left.now ≡ 16 → length right.now ≡ 16 →
+        result ≡ slice_index (raise (λ s. sha_pair key.now s right.now) turns left.now) place }
+    ensures refused { (length key.now ≡ 16 → length left.now ≡ 16 → length right.now ≢ 16) →
+        result ≡ 0 }
 {
     pairs::<Sha256Hash>(key, left, right, turns, place)
 }
 
 #[unsafe(no_mangle)]
 pub extern "C" fn aes128_steps(key: &[u8], string: &[u8], turns: u8, place: usize) -> u8
-    ensures answered { length key.now ≡ 16 → length string.now ≡ 16 → result ≡ slice_index (raise (aes_step key.now) turns string.now) place }
+    ensures answered { length key.now ≡ 16 → length string.now ≡ 16 →
+        result ≡ slice_index (raise (aes_step key.now) turns string.now) place }
     ensures refused { (length key.now ≡ 16 → length string.now ≢ 16) → result ≡ 0 }
 {
     steps::<Aes128Hash>(key, string, turns, place)
@@ -85,8 +93,10 @@ pub extern "C" fn aes128_steps(key: &[u8], string: &[u8], turns: u8, place: usiz
 
 #[unsafe(no_mangle)]
 pub extern "C" fn aes128_pairs(key: &[u8], left: &[u8], right: &[u8], turns: u8, place: usize) -> u8
-    ensures answered { length key.now ≡ 16 → length left.now ≡ 16 → length right.now ≡ 16 → result ≡ slice_index (raise (λ s. aes_pair key.now s right.now) turns left.now) place }
-    ensures refused { (length key.now ≡ 16 → length left.now ≡ 16 → length right.now ≢ 16) → result ≡ 0 }
+    ensures answered { length key.now ≡ 16 → length left.now ≡ 16 → length right.now ≡ 16 →
+        result ≡ slice_index (raise (λ s. aes_pair key.now s right.now) turns left.now) place }
+    ensures refused { (length key.now ≡ 16 → length left.now ≡ 16 → length right.now ≢ 16) →
+        result ≡ 0 }
 {
     pairs::<Aes128Hash>(key, left, right, turns, place)
 }

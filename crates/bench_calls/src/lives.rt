@@ -1,4 +1,5 @@
-// Parts of a key's life, from its source on, for any hash and code.
+//! Parts of a key's life, from its source on, for any hash and code.
+
 ghost use Rattle.std.specs.Prelude.{◌≡◌};
 ghost use Rattle.bench_calls.specs.Lives.{begun, grows, grown, grown_node, finished, keyed, keyed_output, serving, signed, signed_output, traced, traced_report, verified};
 ghost use Rattle.schemes.specs.Tasks.{Wrote};
@@ -13,7 +14,7 @@ use schemes::Task;
 use signer::{Maker, Plan, Signer};
 use verifier::{Refusal, open, verify};
 
-// Opens a key record, and verifies a release record under it.
+/// Opens a key record, and verifies a release record under it.
 #[derive(Drop)]
 pub struct Verify<'a> {
     pub key: &'a [u8],
@@ -24,7 +25,8 @@ pub struct Verify<'a> {
 impl Task for Verify<'_> {
     type Output = Result<usize, Refusal>;
 
-    ghost gives = { λ before h c result after. result ≡ verified h c before.key.now before.stamp.now before.release.now };
+    ghost gives = { λ before h c result after.
+        result ≡ verified h c before.key.now before.stamp.now before.release.now };
 
     fn run<H: TreeHash, C: Code>(&mut self) -> Result<usize, Refusal> {
         let opened = open::<H, C>(self.key)?;
@@ -43,7 +45,8 @@ fn begin<H: TreeHash, C: Code>(source: &Source) -> Result<Maker<H, C>, Refusal>
 
 // Calls grow as often as `leaves` says.
 fn grow_on<H: TreeHash, C: Code>(maker: &mut Maker<H, C>, leaves: u16)
-    ensures { making_of maker.new ≡ grows (hash_of H.ChainHash H.TreeHash.own) (code_of C.Code) leaves (making_of maker.old) }
+    ensures { making_of maker.new ≡ grows (hash_of H.ChainHash H.TreeHash.own) (code_of C.Code)
+        leaves (making_of maker.old) }
 {
     let mut work = [0; 4096];
     for _ in 0..leaves {
@@ -51,7 +54,7 @@ fn grow_on<H: TreeHash, C: Code>(maker: &mut Maker<H, C>, leaves: u16)
     }
 }
 
-// Begins a key and grows `leaves` leaves; says whether a node is held at the level, with its position, and writes it.
+/// Begins a key and grows `leaves` leaves; says whether a node is held at the level, with its position, and writes it.
 #[derive(Drop)]
 pub struct Grow<'a, 'o> {
     pub source: &'a Source,
@@ -63,7 +66,10 @@ pub struct Grow<'a, 'o> {
 impl Task for Grow<'_, '_> {
     type Output = Result<(usize, u16), Refusal>;
 
-    ghost gives = { λ before h c result after. (result ≡ grown h c before.source.now before.leaves before.level) × Wrote before.node (grown_node h c before.source.now before.leaves before.level before.node.now) after.node };
+    ghost gives = { λ before h c result after.
+        (result ≡ grown h c before.source.now before.leaves before.level)
+        × Wrote before.node
+        (grown_node h c before.source.now before.leaves before.level before.node.now) after.node };
 
     fn run<H: TreeHash, C: Code>(&mut self) -> Result<(usize, u16), Refusal> {
         let mut maker = begin::<H, C>(self.source)?;
@@ -84,13 +90,14 @@ fn finish<H: TreeHash, C: Code>(
     source: &Source,
     work: &mut [u8; 4096],
 ) -> Result<Signer<H, C>, Refusal>
-    ensures { seen signing_of result ≡ finished (hash_of H.ChainHash H.TreeHash.own) (code_of C.Code) source.now }
+    ensures { seen signing_of result ≡ finished (hash_of H.ChainHash H.TreeHash.own)
+        (code_of C.Code) source.now }
 {
     let maker = begin::<H, C>(source)?;
     Ok(maker.finish(work))
 }
 
-// Begins and finishes a key, and writes its key record `turns` times and once more.
+/// Begins and finishes a key, and writes its key record `turns` times and once more.
 #[derive(Drop)]
 pub struct Key<'a, 'o> {
     pub source: &'a Source,
@@ -101,7 +108,10 @@ pub struct Key<'a, 'o> {
 impl Task for Key<'_, '_> {
     type Output = Result<usize, Refusal>;
 
-    ghost gives = { λ before h c result after. (result ≡ keyed h c before.source.now before.turns before.out.now) × Wrote before.out (keyed_output h c before.source.now before.turns before.out.now) after.out };
+    ghost gives = { λ before h c result after.
+        (result ≡ keyed h c before.source.now before.turns before.out.now)
+        × Wrote before.out
+        (keyed_output h c before.source.now before.turns before.out.now) after.out };
 
     fn run<H: TreeHash, C: Code>(&mut self) -> Result<usize, Refusal> {
         let mut work = [0; 4096];
@@ -119,14 +129,15 @@ fn serve<H: TreeHash, C: Code>(
     leaf: u16,
     work: &mut [u8; 4096],
 ) -> Result<Signer<H, C>, Refusal>
-    ensures { seen signing_of result ≡ serving (hash_of H.ChainHash H.TreeHash.own) (code_of C.Code) source.now leaf }
+    ensures { seen signing_of result ≡ serving (hash_of H.ChainHash H.TreeHash.own) (code_of C.Code)
+        source.now leaf }
 {
     let mut signer = finish::<H, C>(source, work)?;
     let _ = signer.skip(leaf);
     Ok(signer)
 }
 
-// Begins and finishes a key, skips to a leaf, and signs.
+/// Begins and finishes a key, skips to a leaf, and signs.
 #[derive(Drop)]
 pub struct Sign<'a, 'o> {
     pub source: &'a Source,
@@ -138,7 +149,11 @@ pub struct Sign<'a, 'o> {
 impl Task for Sign<'_, '_> {
     type Output = Result<(usize, u16), Refusal>;
 
-    ghost gives = { λ before h c result after. (result ≡ signed h c before.source.now before.leaf before.out.now) × Wrote before.out (signed_output h c before.source.now before.leaf before.stamp.now before.out.now) after.out };
+    ghost gives = { λ before h c result after.
+        (result ≡ signed h c before.source.now before.leaf before.out.now)
+        × Wrote before.out
+        (signed_output h c before.source.now before.leaf before.stamp.now before.out.now)
+        after.out };
 
     fn run<H: TreeHash, C: Code>(&mut self) -> Result<(usize, u16), Refusal> {
         let mut work = [0; 4096];
@@ -147,7 +162,7 @@ impl Task for Sign<'_, '_> {
     }
 }
 
-// Begins and finishes a key, skips to a leaf, signs the stamp `spent` there, retires the key, and traces a record for `stamp`.
+/// Begins and finishes a key, skips to a leaf, signs the stamp `spent` there, retires the key, and traces a record for `stamp`.
 #[derive(Drop)]
 pub struct Trace<'a, 'o> {
     pub source: &'a Source,
@@ -161,7 +176,12 @@ pub struct Trace<'a, 'o> {
 impl Task for Trace<'_, '_> {
     type Output = Result<(u8, u16, u16), Refusal>;
 
-    ghost gives = { λ before h c result after. (result ≡ traced h c before.source.now before.leaf before.spent.now before.stamp.now before.release.now) × Wrote before.report (traced_report h c before.source.now before.leaf before.spent.now before.stamp.now before.release.now before.report.now) after.report };
+    ghost gives = { λ before h c result after.
+        (result ≡ traced h c before.source.now before.leaf before.spent.now before.stamp.now
+        before.release.now)
+        × Wrote before.report
+        (traced_report h c before.source.now before.leaf before.spent.now before.stamp.now
+        before.release.now before.report.now) after.report };
 
     fn run<H: TreeHash, C: Code>(&mut self) -> Result<(u8, u16, u16), Refusal> {
         let mut work = [0; 4096];

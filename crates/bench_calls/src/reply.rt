@@ -1,9 +1,10 @@
-// What a call on a whole key answers.
+//! What a call on a whole key answers.
+
 ghost use Rattle.std.specs.Prelude.{◌≡◌, ℕ};
 
 use verifier::Refusal;
 
-// The number of a refusal and zeros; or 0, and the numbers of an answer.
+/// The number of a refusal and zeros; or 0, and the numbers of an answer.
 #[repr(C)]
 #[derive(Clone, Copy)]
 pub struct Reply {
@@ -13,11 +14,11 @@ pub struct Reply {
     pub refusal: u8,
 }
 
-// An answer of up to three numbers.
+/// An answer of up to three numbers.
 pub trait Numbers {
     ghost numbers: { Self → ℕ × ℕ × ℕ };
 
-    // The numbers, zeros after them.
+    /// The numbers, zeros after them.
     fn numbers(self) -> (usize, u16, u16)
         ensures { result ≡ numbers self };
 }

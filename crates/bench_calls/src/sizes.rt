@@ -1,4 +1,5 @@
-// How many bytes the types of a key take.
+//! How many bytes the types of a key take.
+
 ghost use Rattle.std.specs.Prelude.{◌≡◌, ◌∷◌, [], slice_index};
 
 use codes::Winternitz4;
@@ -7,8 +8,8 @@ use sha256::Sha256Hash;
 use signer::{Ledger, Maker, Plan, Retired, Signer};
 use verifier::{OpenedKey, Release};
 
-// The bytes of a type: 1 a maker, 2 a signer, 3 a retired signer, 4 an opened key, 5 a plan, 6 a ledger, 7 an origin, 8 a release
-// that was read; 0 for any other number. They are the same for every hash and code.
+/// The bytes of a type: 1 a maker, 2 a signer, 3 a retired signer, 4 an opened key, 5 a plan, 6 a ledger, 7 an origin, 8 a release
+/// that was read; 0 for any other number. They are the same for every hash and code.
 #[unsafe(no_mangle)]
 pub extern "C" fn type_size(which: u8) -> usize
     ensures { result ≡ slice_index (0 ∷ 692 ∷ 4916 ∷ 4916 ∷ 24 ∷ 1 ∷ 4352 ∷ 545 ∷ 24 ∷ []) which }

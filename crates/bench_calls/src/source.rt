@@ -1,6 +1,6 @@
-// What a caller gives of a key.
+//! What a caller gives of a key.
 
-// Seed, hash key and masks, and the height of the plan.
+/// Seed, hash key and masks, and the height of the plan.
 #[repr(C)]
 #[derive(Clone, Copy)]
 pub struct Source {

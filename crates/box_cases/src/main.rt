@@ -1,5 +1,5 @@
-// box_cases: the report of each input in the folder of cases. An independent model made those named `box_HASH_CODE`;
-// the others are edits of one of them, each for a refusal.
+//! box_cases: the report of each input in the folder of cases. An independent model made those named `box_HASH_CODE`;
+//! the others are edits of one of them, each for a refusal.
 #![tactic(auto)]
 
 use orders::check;

@@ -1,4 +1,4 @@
-// boxcheck: reads a key record and orders from standard input, and prints which orders would open the box.
+//! boxcheck: reads a key record and orders from standard input, and prints which orders would open the box.
 #![tactic(auto)]
 
 use orders::check;

@@ -1,26 +1,27 @@
-// What a code is, and the laws that it keeps.
+//! What a code is, and the laws that it keeps.
+
 ghost use Rattle.std.specs.Prelude.{◌≡◌, ℕ, ◌^◌, ◌<◌, ◌≤◌, List};
 ghost use Rattle.codes.specs.Codes.{Apart};
 ghost use Rattle.strings.specs.Strings.{Str};
 
-// A code: which digit a stamp has at a place.
+/// A code: which digit a stamp has at a place.
 pub trait Code {
-    // The code's own number.
+    /// The code's own number.
     const NUMBER: u8;
 
     ghost NUMBER: { ℕ };
 
-    // How many digits a stamp has.
+    /// How many digits a stamp has.
     const COUNT: usize;
 
     ghost COUNT: { ℕ };
 
-    // The largest digit.
+    /// The largest digit.
     const TOP: u8;
 
     ghost TOP: { ℕ };
 
-    // The levels of the tree inside a leaf.
+    /// The levels of the tree inside a leaf.
     const LEVELS: u8;
 
     ghost LEVELS: { ℕ };
@@ -28,7 +29,7 @@ pub trait Code {
     // The digit of a stamp at a place.
     ghost digits: { List ℕ → ℕ → ℕ };
 
-    // The stamp's digit at a place, the largest digit past the last.
+    /// The stamp's digit at a place, the largest digit past the last.
     fn digit(stamp: &[u8; 16], place: usize) -> u8
         ensures { result ≡ digits stamp.now place };
 

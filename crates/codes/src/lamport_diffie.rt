@@ -1,4 +1,5 @@
-// The Lamport-Diffie code.
+//! The Lamport-Diffie code.
+
 ghost use Rattle.codes.specs.Codes.{lamport_diffie};
 ghost use Rattle.codes.specs.Laws.{lamport_diffie-apart};
 ghost use Rattle.std.proofs.Common.{rules};
@@ -6,7 +7,7 @@ ghost use Rattle.std.proofs.Common.{rules};
 use crate::Code;
 use crate::bits::read_bits;
 
-// Lamport-Diffie: each bit of the stamp, followed by one minus it.
+/// Lamport-Diffie: each bit of the stamp, followed by one minus it.
 pub struct LamportDiffie;
 
 impl Code for LamportDiffie {

@@ -1,4 +1,4 @@
-// Codes: each turns a stamp of 16 bytes and a place into a digit.
+//! Codes: each turns a stamp of 16 bytes and a place into a digit.
 #![tactic(auto)]
 
 mod bits;

@@ -1,26 +1,27 @@
-// The widths of Winternitz digits.
+//! The widths of Winternitz digits.
+
 ghost use Rattle.std.specs.Prelude.{ℕ, ◌+◌, ◌-◌, ◌*◌, ◌/◌, ◌^◌, ◌<◌, ◌≤◌, refl};
 ghost use Rattle.codes.specs.Codes.{Width};
 ghost use Rattle.std.proofs.Common.{lit<, lit≤};
 
-// How wide digits are, and what a code with such digits has.
+/// How wide digits are, and what a code with such digits has.
 pub trait DigitWidth {
-    // The code's own number.
+    /// The code's own number.
     const NUMBER: u8;
 
     ghost NUMBER: { ℕ };
 
-    // The bits of a digit.
+    /// The bits of a digit.
     const WIDTH: usize;
 
     ghost WIDTH: { ℕ };
 
-    // How many digits the checksum takes.
+    /// How many digits the checksum takes.
     const ENDS: usize;
 
     ghost ENDS: { ℕ };
 
-    // The levels of the tree inside a leaf.
+    /// The levels of the tree inside a leaf.
     const LEVELS: u8;
 
     ghost LEVELS: { ℕ };
@@ -44,7 +45,7 @@ pub trait DigitWidth {
     ghost level_range: { (1 ≤ LEVELS) × (LEVELS ≤ 8) };
 }
 
-// 64 digits of a stamp, and 5 of its checksum.
+/// 64 digits of a stamp, and 5 of its checksum.
 pub struct TwoBits;
 
 impl DigitWidth for TwoBits {
@@ -79,7 +80,7 @@ impl DigitWidth for TwoBits {
     ghost level_range = { (lit≤ tt, lit≤ tt) };
 }
 
-// 32 digits of a stamp, and 3 of its checksum.
+/// 32 digits of a stamp, and 3 of its checksum.
 pub struct FourBits;
 
 impl DigitWidth for FourBits {

@@ -1,4 +1,5 @@
-// The Winternitz codes, over a width of digits.
+//! The Winternitz codes, over a width of digits.
+
 ghost use Rattle.std.specs.Prelude.{◌≡◌, ◌+◌, ◌-◌, ◌*◌, ◌/◌, ◌^◌, ◌<◌};
 ghost use Rattle.codes.specs.Codes.{checksum, cut, winternitz};
 ghost use Rattle.codes.specs.Laws.{winternitz-within, winternitz-past, winternitz-apart};
@@ -7,15 +8,15 @@ use crate::bits::read_bits;
 use crate::{Code, DigitWidth, FourBits, TwoBits};
 use std::marker::PhantomData;
 
-// Winternitz: the stamp in digits of a width, and then its checksum.
+/// Winternitz: the stamp in digits of a width, and then its checksum.
 pub struct Winternitz<W> {
     pub width: PhantomData<W>,
 }
 
-// 64 digits of the stamp, 5 of its checksum.
+/// 64 digits of the stamp, 5 of its checksum.
 pub type Winternitz2 = Winternitz<TwoBits>;
 
-// 32 digits of the stamp, 3 of its checksum.
+/// 32 digits of the stamp, 3 of its checksum.
 pub type Winternitz4 = Winternitz<FourBits>;
 
 impl<W: DigitWidth> Winternitz<W> {

@@ -1,4 +1,5 @@
-// Comparing chains.
+//! Comparing chains.
+
 ghost use Rattle.std.specs.Prelude.{◌≡◌, ℕ, ◌-◌, ◌<◌, ◌≤◌};
 ghost use Rattle.compare.specs.Search.{last_from, step_find, hidden_find, height_search, hidden_find_at, chain_search, hidden_search};
 ghost use Rattle.compare.specs.Sides.{revealed_height, our_chain, their_chain, their_one_time};
@@ -18,7 +19,8 @@ use strings::{ZERO, put_string, same, string_at};
 fn step_both<H: ChainHash>(key: &[u8; 16], chain: u16, height: u8, at: &Sides) -> Compared
     ensures ours { result.sides.ours ≡ H.ChainHash.steps key.now at.now.ours }
     ensures theirs { result.sides.theirs ≡ H.ChainHash.steps key.now at.now.theirs }
-    ensures find { result.find ≡ step_find (H.ChainHash.steps key.now) chain height at.now.ours at.now.theirs }
+    ensures find { result.find ≡ step_find (H.ChainHash.steps key.now) chain height at.now.ours
+        at.now.theirs }
 {
     let ours = H::step(key, &at.ours);
     let theirs = H::step(key, &at.theirs);
@@ -36,8 +38,11 @@ fn step_both<H: ChainHash>(key: &[u8; 16], chain: u16, height: u8, at: &Sides) -
 fn raise_both<H: ChainHash>(key: &[u8; 16], chain: u16, from: u8, to: u8, start: &Sides) -> Compared
     requires { from ≤ to }
     ensures ours { result.sides.ours ≡ raise (H.ChainHash.steps key.now) (to - from) start.now.ours }
-    ensures theirs { result.sides.theirs ≡ raise (H.ChainHash.steps key.now) (to - from) start.now.theirs }
-    ensures find { result.find ≡ last_from (λ e. step_find (H.ChainHash.steps key.now) chain e (raise (H.ChainHash.steps key.now) (e - from) start.now.ours) (raise (H.ChainHash.steps key.now) (e - from) start.now.theirs)) from (to - from) }
+    ensures theirs { result.sides.theirs ≡ raise (H.ChainHash.steps key.now) (to - from)
+        start.now.theirs }
+    ensures find { result.find ≡ last_from (λ e. step_find (H.ChainHash.steps key.now) chain e
+        (raise (H.ChainHash.steps key.now) (e - from) start.now.ours)
+        (raise (H.ChainHash.steps key.now) (e - from) start.now.theirs)) from (to - from) }
 {
     let mut sides = *start;
     let mut find = None;
@@ -74,7 +79,8 @@ fn hidden<C: Code>(
     digit: u8,
     string: &[u8; 16],
 ) -> Option<Find>
-    ensures { result ≡ hidden_find chain digit (revealed_height (code_of C.Code) entered.now chain) string.now }
+    ensures { result ≡ hidden_find chain digit (revealed_height (code_of C.Code) entered.now chain)
+        string.now }
 {
     let hides = digit < revealed::<C>(entered, chain as usize);
     hides.then(|| Find {
@@ -84,8 +90,8 @@ fn hidden<C: Code>(
     })
 }
 
-// A chain of the leaf: its top on both sides; the greatest height at which two different strings step to one; and its string where
-// that was not revealed.
+/// A chain of the leaf: its top on both sides; the greatest height at which two different strings step to one; and its string where
+/// that was not revealed.
 #[derive(Clone, Copy)]
 pub(crate) struct Chain {
     pub top: Sides,
@@ -93,7 +99,7 @@ pub(crate) struct Chain {
     pub hidden: Option<Find>,
 }
 
-// What the chains of a leaf show: the break of the first chain that has one, and the first string that was not revealed.
+/// What the chains of a leaf show: the break of the first chain that has one, and the first string that was not revealed.
 #[derive(Clone, Copy)]
 pub(crate) struct Chains {
     pub broken: Option<Find>,
@@ -104,10 +110,14 @@ impl<H: TreeHash, C: Code> Subject<'_, H, C> {
     // Compares a chain of the leaf.
     fn compare_chain(&self, chain: u16) -> Chain
         requires { chain < C.Code.COUNT }
-        ensures ours { result.top.ours ≡ our_chain (hash_of H.ChainHash H.TreeHash.own) (code_of C.Code) (traced_of self.now) chain C.Code.TOP }
-        ensures theirs { result.top.theirs ≡ their_chain (hash_of H.ChainHash H.TreeHash.own) (code_of C.Code) (traced_of self.now) chain C.Code.TOP }
-        ensures broken { result.broken ≡ height_search (hash_of H.ChainHash H.TreeHash.own) (code_of C.Code) (traced_of self.now) chain }
-        ensures hidden { result.hidden ≡ hidden_find_at (hash_of H.ChainHash H.TreeHash.own) (code_of C.Code) (traced_of self.now) chain }
+        ensures ours { result.top.ours ≡ our_chain (hash_of H.ChainHash H.TreeHash.own)
+            (code_of C.Code) (traced_of self.now) chain C.Code.TOP }
+        ensures theirs { result.top.theirs ≡ their_chain (hash_of H.ChainHash H.TreeHash.own)
+            (code_of C.Code) (traced_of self.now) chain C.Code.TOP }
+        ensures broken { result.broken ≡ height_search (hash_of H.ChainHash H.TreeHash.own)
+            (code_of C.Code) (traced_of self.now) chain }
+        ensures hidden { result.hidden ≡ hidden_find_at (hash_of H.ChainHash H.TreeHash.own)
+            (code_of C.Code) (traced_of self.now) chain }
     {
         let place = chain as usize;
         let digit = digit_of::<C>(self.stamp, place);
@@ -124,12 +134,18 @@ impl<H: TreeHash, C: Code> Subject<'_, H, C> {
         }
     }
 
-    // Compares the chains of the leaf, and fills two rows with its one-time strings: the signer's and the record's.
+    /// Compares the chains of the leaf, and fills two rows with its one-time strings: the signer's and the record's.
     pub(crate) fn compare_chains(&self, ours: &mut [u8; 4096], theirs: &mut [u8; 4096]) -> Chains
-        ensures ours { (k : ℕ) → k < 256 → string_at ours.new k ≡ leaf_string (hash_of H.ChainHash H.TreeHash.own) (code_of C.Code) (traced_of self.now).origin self.now.leaf k }
-        ensures theirs { (k : ℕ) → k < 256 → string_at theirs.new k ≡ their_one_time (hash_of H.ChainHash H.TreeHash.own) (code_of C.Code) (traced_of self.now) k }
-        ensures broken { result.broken ≡ chain_search (hash_of H.ChainHash H.TreeHash.own) (code_of C.Code) (traced_of self.now) }
-        ensures hidden { result.hidden ≡ hidden_search (hash_of H.ChainHash H.TreeHash.own) (code_of C.Code) (traced_of self.now) }
+        ensures ours { (k : ℕ) → k < 256 →
+            string_at ours.new k ≡ leaf_string (hash_of H.ChainHash H.TreeHash.own)
+            (code_of C.Code) (traced_of self.now).origin self.now.leaf k }
+        ensures theirs { (k : ℕ) → k < 256 →
+            string_at theirs.new k ≡ their_one_time (hash_of H.ChainHash H.TreeHash.own)
+            (code_of C.Code) (traced_of self.now) k }
+        ensures broken { result.broken ≡ chain_search (hash_of H.ChainHash H.TreeHash.own)
+            (code_of C.Code) (traced_of self.now) }
+        ensures hidden { result.hidden ≡ hidden_search (hash_of H.ChainHash H.TreeHash.own)
+            (code_of C.Code) (traced_of self.now) }
     {
         *ours = [0; 4096];
         *theirs = [0; 4096];

@@ -1,4 +1,5 @@
-// Comparing a record with what the signer's seed and ledger give.
+//! Comparing a record with what the signer's seed and ledger give.
+
 ghost use Rattle.std.specs.Prelude.{◌≡◌};
 ghost use Rattle.compare.specs.Found.{Found};
 ghost use Rattle.compare.specs.Search.{chosen, found};
@@ -10,7 +11,7 @@ use crate::{Find, Subject, Verdict};
 use codes::Code;
 use hashes::TreeHash;
 
-// The root that a record leads to, and the verdict on it.
+/// The root that a record leads to, and the verdict on it.
 #[derive(Clone, Copy)]
 pub struct Comparison {
     pub root: [u8; 16],
@@ -30,11 +31,15 @@ fn choose(node: Option<Find>, chain: Option<Find>, hidden: Option<Find>) -> Verd
 }
 
 impl<H: TreeHash, C: Code> Subject<'_, H, C> {
-    // Compares the record with what the signer's seed and ledger give for its leaf. The work buffer is used up.
+    /// Compares the record with what the signer's seed and ledger give for its leaf. The work buffer is used up.
     pub fn compare(&self, work: &mut [u8; 4096]) -> Comparison
-        ensures root { result.root ≡ rebuilt (hash_of H.ChainHash H.TreeHash.own) (code_of C.Code) self.now.tree.origin.now.hash_key self.now.tree.origin.now.masks self.now.tree.origin.now.height self.now.leaf self.now.stamp.now self.now.row.now }
-        ensures verdict { result.verdict ≡ found (hash_of H.ChainHash H.TreeHash.own) (code_of C.Code) (traced_of self.now) }
-        ensures first { Found (hash_of H.ChainHash H.TreeHash.own) (code_of C.Code) (traced_of self.now) result.verdict }
+        ensures root { result.root ≡ rebuilt (hash_of H.ChainHash H.TreeHash.own) (code_of C.Code)
+            self.now.tree.origin.now.hash_key self.now.tree.origin.now.masks
+            self.now.tree.origin.now.height self.now.leaf self.now.stamp.now self.now.row.now }
+        ensures verdict { result.verdict ≡ found (hash_of H.ChainHash H.TreeHash.own)
+            (code_of C.Code) (traced_of self.now) }
+        ensures first { Found (hash_of H.ChainHash H.TreeHash.own) (code_of C.Code)
+            (traced_of self.now) result.verdict }
     {
         let mut theirs = [0; 4096];
         let chains = self.compare_chains(work, &mut theirs);

@@ -1,4 +1,4 @@
-// Comparing a release record with what a signer's seed and ledger give.
+//! Comparing a release record with what a signer's seed and ledger give.
 #![tactic(auto)]
 
 mod chains;

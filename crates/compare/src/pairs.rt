@@ -1,4 +1,5 @@
-// Comparing nodes.
+//! Comparing nodes.
+
 ghost use Rattle.std.specs.Prelude.{◌≡◌, ℕ, ◌+◌, ◌*◌, ◌^◌, ◌<◌, ◌≤◌, length};
 ghost use Rattle.compare.specs.Search.{first_from, child_find, depth_search};
 ghost use Rattle.strings.specs.Strings.{string_at};
@@ -11,7 +12,7 @@ use hashes::TreeHash;
 use strings::{put_string, same, string_at};
 use tree::nodes::{Children, Joiner};
 
-// The parent at a level of two children on both sides, and whether it hides that they differ.
+/// The parent at a level of two children on both sides, and whether it hides that they differ.
 pub(crate) fn join_both<H: TreeHash>(
     joiner: &Joiner<'_, H>,
     level: usize,
@@ -21,9 +22,13 @@ pub(crate) fn join_both<H: TreeHash>(
 ) -> Compared
     requires masked { 32 * level + 32 ≤ length joiner.now.masks.now }
     requires few { level < 16 }
-    ensures ours { result.sides.ours ≡ join (H.TreeHash.pairs joiner.now.key.now) joiner.now.masks.now level ours.now.left ours.now.right }
-    ensures theirs { result.sides.theirs ≡ join (H.TreeHash.pairs joiner.now.key.now) joiner.now.masks.now level theirs.now.left theirs.now.right }
-    ensures find { result.find ≡ child_find (H.TreeHash.pairs joiner.now.key.now) joiner.now.masks.now level position ours.now.left ours.now.right theirs.now.left theirs.now.right }
+    ensures ours { result.sides.ours ≡ join (H.TreeHash.pairs joiner.now.key.now)
+        joiner.now.masks.now level ours.now.left ours.now.right }
+    ensures theirs { result.sides.theirs ≡ join (H.TreeHash.pairs joiner.now.key.now)
+        joiner.now.masks.now level theirs.now.left theirs.now.right }
+    ensures find { result.find ≡ child_find (H.TreeHash.pairs joiner.now.key.now)
+        joiner.now.masks.now level position ours.now.left ours.now.right theirs.now.left
+        theirs.now.right }
 {
     let ours = joiner.masked(level, ours);
     let theirs = joiner.masked(level, theirs);
@@ -67,9 +72,16 @@ fn join_level<H: TreeHash>(
     requires ours { 32 * n ≤ length ours.old }
     requires theirs { 32 * n ≤ length theirs.old }
     requires places { first + n ≤ 2 ^ 16 }
-    ensures ours { (k : ℕ) → k < n → string_at ours.new k ≡ join (H.TreeHash.pairs joiner.now.key.now) joiner.now.masks.now level (string_at ours.old (2 * k)) (string_at ours.old (2 * k + 1)) }
-    ensures theirs { (k : ℕ) → k < n → string_at theirs.new k ≡ join (H.TreeHash.pairs joiner.now.key.now) joiner.now.masks.now level (string_at theirs.old (2 * k)) (string_at theirs.old (2 * k + 1)) }
-    ensures find { result ≡ first_from (λ p. child_find (H.TreeHash.pairs joiner.now.key.now) joiner.now.masks.now level (first + p) (string_at ours.old (2 * p)) (string_at ours.old (2 * p + 1)) (string_at theirs.old (2 * p)) (string_at theirs.old (2 * p + 1))) 0 n }
+    ensures ours { (k : ℕ) → k < n → string_at ours.new k
+        ≡ join (H.TreeHash.pairs joiner.now.key.now) joiner.now.masks.now level
+        (string_at ours.old (2 * k)) (string_at ours.old (2 * k + 1)) }
+    ensures theirs { (k : ℕ) → k < n → string_at theirs.new k
+        ≡ join (H.TreeHash.pairs joiner.now.key.now) joiner.now.masks.now level
+        (string_at theirs.old (2 * k)) (string_at theirs.old (2 * k + 1)) }
+    ensures find { result ≡ first_from (λ p. child_find (H.TreeHash.pairs joiner.now.key.now)
+        joiner.now.masks.now level (first + p) (string_at ours.old (2 * p))
+        (string_at ours.old (2 * p + 1)) (string_at theirs.old (2 * p))
+        (string_at theirs.old (2 * p + 1))) 0 n }
 {
     let mut found = None;
     for p in 0..n {
@@ -90,12 +102,19 @@ fn join_level<H: TreeHash>(
 }
 
 impl<H: TreeHash, C: Code> Subject<'_, H, C> {
-    // The node of the leaf on both sides, over two rows with its one-time strings; and the first node below it, or itself,
-    // that hides that its children differ. The rows are used up.
+    /// The node of the leaf on both sides, over two rows with its one-time strings; and the first node below it, or itself,
+    /// that hides that its children differ. The rows are used up.
     pub(crate) fn fold_both(&self, ours: &mut [u8; 4096], theirs: &mut [u8; 4096]) -> Compared
-        ensures ours { result.sides.ours ≡ node (join (H.TreeHash.pairs self.now.tree.origin.now.hash_key) self.now.tree.origin.now.masks) (string_at ours.old) self.now.tree.origin.now.height C.Code.LEVELS 0 }
-        ensures theirs { result.sides.theirs ≡ node (join (H.TreeHash.pairs self.now.tree.origin.now.hash_key) self.now.tree.origin.now.masks) (string_at theirs.old) self.now.tree.origin.now.height C.Code.LEVELS 0 }
-        ensures find { result.find ≡ first_from (depth_search (H.TreeHash.pairs self.now.tree.origin.now.hash_key) self.now.tree.origin.now.masks self.now.tree.origin.now.height self.now.leaf C.Code.LEVELS (string_at ours.old) (string_at theirs.old)) 0 C.Code.LEVELS }
+        ensures ours { result.sides.ours ≡ node (join
+            (H.TreeHash.pairs self.now.tree.origin.now.hash_key) self.now.tree.origin.now.masks)
+            (string_at ours.old) self.now.tree.origin.now.height C.Code.LEVELS 0 }
+        ensures theirs { result.sides.theirs ≡ node (join
+            (H.TreeHash.pairs self.now.tree.origin.now.hash_key) self.now.tree.origin.now.masks)
+            (string_at theirs.old) self.now.tree.origin.now.height C.Code.LEVELS 0 }
+        ensures find { result.find ≡ first_from (depth_search
+            (H.TreeHash.pairs self.now.tree.origin.now.hash_key) self.now.tree.origin.now.masks
+            self.now.tree.origin.now.height self.now.leaf C.Code.LEVELS (string_at ours.old)
+            (string_at theirs.old)) 0 C.Code.LEVELS }
     {
         let joiner = self.tree.origin.joiner::<H>();
         let height = self.tree.origin.height as usize;

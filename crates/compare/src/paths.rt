@@ -1,4 +1,5 @@
-// Comparing the way from the leaf to the root.
+//! Comparing the way from the leaf to the root.
+
 ghost use Rattle.std.specs.Prelude.{◌≡◌, ◌+◌, ◌-◌, ◌/◌, ◌%◌, ◌^◌, ◌<◌, if◌then◌else◌, nat_eq};
 ghost use Rattle.compare.specs.Search.{first_from, node_find_at, level_search};
 ghost use Rattle.compare.specs.Sides.{our_node, their_node};
@@ -19,11 +20,16 @@ impl<H: TreeHash, C: Code> Subject<'_, H, C> {
     fn climb_one(&self, level: usize, position: u16, at: &Sides, work: &mut [u8; 4096]) -> Compared
         requires under { level < self.now.tree.origin.now.height }
         requires place { position ≡ self.now.leaf / 2 ^ (self.now.tree.origin.now.height - (level + 1)) }
-        requires ours { at.now.ours ≡ our_node (hash_of H.ChainHash H.TreeHash.own) (code_of C.Code) (traced_of self.now) (level + 1) position }
-        requires theirs { at.now.theirs ≡ their_node (hash_of H.ChainHash H.TreeHash.own) (code_of C.Code) (traced_of self.now) (level + 1) position }
-        ensures ours { result.sides.ours ≡ our_node (hash_of H.ChainHash H.TreeHash.own) (code_of C.Code) (traced_of self.now) level (position / 2) }
-        ensures theirs { result.sides.theirs ≡ their_node (hash_of H.ChainHash H.TreeHash.own) (code_of C.Code) (traced_of self.now) level (position / 2) }
-        ensures find { result.find ≡ node_find_at (hash_of H.ChainHash H.TreeHash.own) (code_of C.Code) (traced_of self.now) level (position / 2) }
+        requires ours { at.now.ours ≡ our_node (hash_of H.ChainHash H.TreeHash.own) (code_of C.Code)
+            (traced_of self.now) (level + 1) position }
+        requires theirs { at.now.theirs ≡ their_node (hash_of H.ChainHash H.TreeHash.own)
+            (code_of C.Code) (traced_of self.now) (level + 1) position }
+        ensures ours { result.sides.ours ≡ our_node (hash_of H.ChainHash H.TreeHash.own)
+            (code_of C.Code) (traced_of self.now) level (position / 2) }
+        ensures theirs { result.sides.theirs ≡ their_node (hash_of H.ChainHash H.TreeHash.own)
+            (code_of C.Code) (traced_of self.now) level (position / 2) }
+        ensures find { result.find ≡ node_find_at (hash_of H.ChainHash H.TreeHash.own)
+            (code_of C.Code) (traced_of self.now) level (position / 2) }
     {
         let our_sibling = self.tree.grow_node(level + 1, sibling(position), work);
         let above = self.tree.origin.height as usize - level - 1;
@@ -34,14 +40,19 @@ impl<H: TreeHash, C: Code> Subject<'_, H, C> {
         join_both(&joiner, level, position / 2, &our_children, &their_children)
     }
 
-    // The root on both sides, from the leaf's node on both, and the first node on the way that hides that its children
-    // differ. The work buffer is used up.
+    /// The root on both sides, from the leaf's node on both, and the first node on the way that hides that its children
+    /// differ. The work buffer is used up.
     pub(crate) fn climb_to_root(&self, leaf_node: &Sides, work: &mut [u8; 4096]) -> Compared
-        requires ours { leaf_node.now.ours ≡ our_node (hash_of H.ChainHash H.TreeHash.own) (code_of C.Code) (traced_of self.now) self.now.tree.origin.now.height self.now.leaf }
-        requires theirs { leaf_node.now.theirs ≡ their_node (hash_of H.ChainHash H.TreeHash.own) (code_of C.Code) (traced_of self.now) self.now.tree.origin.now.height self.now.leaf }
-        ensures ours { result.sides.ours ≡ our_node (hash_of H.ChainHash H.TreeHash.own) (code_of C.Code) (traced_of self.now) 0 0 }
-        ensures theirs { result.sides.theirs ≡ their_node (hash_of H.ChainHash H.TreeHash.own) (code_of C.Code) (traced_of self.now) 0 0 }
-        ensures find { result.find ≡ first_from (level_search (hash_of H.ChainHash H.TreeHash.own) (code_of C.Code) (traced_of self.now)) 0 self.now.tree.origin.now.height }
+        requires ours { leaf_node.now.ours ≡ our_node (hash_of H.ChainHash H.TreeHash.own)
+            (code_of C.Code) (traced_of self.now) self.now.tree.origin.now.height self.now.leaf }
+        requires theirs { leaf_node.now.theirs ≡ their_node (hash_of H.ChainHash H.TreeHash.own)
+            (code_of C.Code) (traced_of self.now) self.now.tree.origin.now.height self.now.leaf }
+        ensures ours { result.sides.ours ≡ our_node (hash_of H.ChainHash H.TreeHash.own)
+            (code_of C.Code) (traced_of self.now) 0 0 }
+        ensures theirs { result.sides.theirs ≡ their_node (hash_of H.ChainHash H.TreeHash.own)
+            (code_of C.Code) (traced_of self.now) 0 0 }
+        ensures find { result.find ≡ first_from (level_search (hash_of H.ChainHash H.TreeHash.own)
+            (code_of C.Code) (traced_of self.now)) 0 self.now.tree.origin.now.height }
     {
         let height = self.tree.origin.height as usize;
         let mut sides = *leaf_node;

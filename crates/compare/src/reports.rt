@@ -1,9 +1,10 @@
-// A report: four strings in one buffer.
+//! A report: four strings in one buffer.
+
 ghost use Rattle.std.specs.Prelude.{◌≡◌, ◌++◌};
 
 use strings::put;
 
-// Four strings, one after another.
+/// Four strings, one after another.
 pub(crate) fn four_strings(a: &[u8; 16], b: &[u8; 16], c: &[u8; 16], d: &[u8; 16]) -> [u8; 64]
     ensures { result ≡ a.now ++ (b.now ++ (c.now ++ d.now)) }
 {

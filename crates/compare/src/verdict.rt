@@ -1,8 +1,9 @@
-// What a comparison finds.
+//! What a comparison finds.
+
 ghost use Rattle.std.specs.Prelude.{◌≡◌};
 ghost use Rattle.compare.specs.Found.{verdict_numbers, verdict_report};
 
-// Where the hash gave way: a level and a position, or a chain and a height; and the report of it.
+/// Where the hash gave way: a level and a position, or a chain and a height; and the report of it.
 #[derive(Clone, Copy)]
 pub struct Find {
     pub first: u16,
@@ -10,21 +11,21 @@ pub struct Find {
     pub report: [u8; 64],
 }
 
-// The verdict on a record.
+/// The verdict on a record.
 #[derive(Clone, Copy)]
 pub enum Verdict {
-    // The signer issued it.
+    /// The signer issued it.
     Ours,
-    // Two different inputs of pair have one value.
+    /// Two different inputs of pair have one value.
     Node(Find),
-    // Two different strings step to one.
+    /// Two different strings step to one.
     Chain(Find),
-    // A string of the signer's that was never revealed.
+    /// A string of the signer's that was never revealed.
     Unrevealed(Find),
 }
 
 impl Verdict {
-    // The verdict's number and two more: where the hash gave way, or the leaf and 0.
+    /// The verdict's number and two more: where the hash gave way, or the leaf and 0.
     pub fn numbers(&self, leaf: u16) -> (u8, u16, u16)
         ensures { result ≡ verdict_numbers leaf self.now }
     {
@@ -36,7 +37,7 @@ impl Verdict {
         }
     }
 
-    // The report, zero where the record is ours.
+    /// The report, zero where the record is ours.
     pub fn report(&self) -> [u8; 64]
         ensures { result ≡ verdict_report self.now }
     {

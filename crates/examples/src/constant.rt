@@ -1,12 +1,13 @@
-// The worst hash that there can be.
+//! The worst hash that there can be.
+
 ghost use Rattle.examples.specs.Constant.{constant-str};
 ghost use Rattle.std.proofs.Common.{rules};
 ghost use Rattle.strings.specs.Strings.{zero_string};
 
 use hashes::{ChainHash, TreeHash};
 
-// A hash that gives the zero string whatever it is given. It keeps the laws of hashes, so all that is promised over every hash
-// holds over it: of a record that was not issued, trace shows two inputs that collide.
+/// A hash that gives the zero string whatever it is given. It keeps the laws of hashes, so all that is promised over every hash
+/// holds over it: of a record that was not issued, trace shows two inputs that collide.
 pub struct ConstantHash;
 
 impl ChainHash for ConstantHash {

@@ -1,4 +1,4 @@
-// Worked examples of the scheme.
+//! Worked examples of the scheme.
 #![tactic(auto)]
 
 ghost use Rattle.std.specs.Prelude.{◌≡◌, ℕ, length};
@@ -10,7 +10,7 @@ mod constant;
 
 pub use constant::ConstantHash;
 
-// How many examples there are, all of which hold; and no code that is blind to the stamp keeps the law of codes.
+/// How many examples there are, all of which hold; and no code that is blind to the stamp keeps the law of codes.
 pub fn worked_examples() -> usize
     ensures count { result ≡ length examples }
     ensures worked { Worked }

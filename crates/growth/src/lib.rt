@@ -1,4 +1,4 @@
-// Growing a tree leaf by leaf.
+//! Growing a tree leaf by leaf.
 #![tactic(auto)]
 
 mod leaves;

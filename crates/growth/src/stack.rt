@@ -1,4 +1,5 @@
-// The nodes that are held while a tree is grown.
+//! The nodes that are held while a tree is grown.
+
 ghost use Rattle.std.specs.Prelude.{◌≡◌, ◌+◌, ◌^◌, ◌<◌};
 ghost use Rattle.growth.specs.Grown.{Holds, with_leaf};
 ghost use Rattle.tree.specs.Meaning.{hash_of, code_of};
@@ -9,12 +10,16 @@ use hashes::TreeHash;
 use strings::{ZERO, put_string, string_at};
 
 impl<H: TreeHash, C: Code> Tree<'_, H, C> {
-    // Adds leaf number `grown` to a tree of which the leaves before it are in. String a of `nodes` is what is held at
-    // level a; nodes over full subtrees of equal size join. The work buffer is used up.
+    /// Adds leaf number `grown` to a tree of which the leaves before it are in. String a of `nodes` is what is held at
+    /// level a; nodes over full subtrees of equal size join. The work buffer is used up.
     pub fn add_leaf(&self, grown: u16, nodes: &mut [u8; 144], work: &mut [u8; 4096])
         requires { grown < 2 ^ self.now.origin.now.height }
-        ensures after { nodes.new ≡ with_leaf (hash_of H.ChainHash H.TreeHash.own) (code_of C.Code) self.now.origin.now grown nodes.old }
-        ensures held { Holds (hash_of H.ChainHash H.TreeHash.own) (code_of C.Code) self.now.origin.now grown nodes.old → Holds (hash_of H.ChainHash H.TreeHash.own) (code_of C.Code) self.now.origin.now (grown + 1) nodes.new }
+        ensures after { nodes.new ≡ with_leaf (hash_of H.ChainHash H.TreeHash.own) (code_of C.Code)
+            self.now.origin.now grown nodes.old }
+        ensures held { Holds (hash_of H.ChainHash H.TreeHash.own) (code_of C.Code)
+            self.now.origin.now grown nodes.old →
+            Holds (hash_of H.ChainHash H.TreeHash.own) (code_of C.Code) self.now.origin.now
+            (grown + 1) nodes.new }
     {
         let joiner = self.origin.joiner::<H>();
         let mut node = self.leaf_node(grown, work);

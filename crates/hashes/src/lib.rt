@@ -1,4 +1,4 @@
-// Keyed hashes on 16-byte strings: what chains and trees ask of one, and the practice hash.
+//! Keyed hashes on 16-byte strings: what chains and trees ask of one, and the practice hash.
 #![tactic(auto)]
 
 ghost use Rattle.std.specs.Prelude.{◌≡◌, ℕ, ◌<◌, List};
@@ -8,9 +8,9 @@ mod practice;
 
 pub use practice::Practice;
 
-// A chain hash steps from string to string under a key. Its meaning is its number and the function `steps`.
+/// A chain hash steps from string to string under a key. Its meaning is its number and the function `steps`.
 pub trait ChainHash {
-    // The number by which key records name the hash.
+    /// The number by which key records name the hash.
     const NUMBER: u8;
 
     ghost NUMBER: { ℕ };
@@ -26,7 +26,7 @@ pub trait ChainHash {
     ghost gives: { (k s : List ℕ) → Str k → Str s → Str (steps k s) };
 }
 
-// A tree hash is a chain hash that can also join two strings.
+/// A tree hash is a chain hash that can also join two strings.
 pub trait TreeHash: ChainHash {
     // key, left and right string to string
     ghost pairs: { List ℕ → List ℕ → List ℕ → List ℕ };

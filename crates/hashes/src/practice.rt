@@ -1,11 +1,12 @@
-// The practice hash.
+//! The practice hash.
+
 ghost use Rattle.hashes.specs.Practice.{practice_step, practice_pair};
 ghost use Rattle.hashes.specs.Bytewise.{step-str, pair-str};
 ghost use Rattle.std.proofs.Common.{rules};
 
 use crate::{ChainHash, TreeHash};
 
-// A hash that can be followed by hand. It keeps nothing secret.
+/// A hash that can be followed by hand. It keeps nothing secret.
 pub struct Practice;
 
 impl ChainHash for Practice {

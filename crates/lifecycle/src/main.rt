@@ -1,4 +1,4 @@
-// lifecycle: the life of a key, told step by step.
+//! lifecycle: the life of a key, told step by step.
 #![tactic(auto)]
 
 use codes::Winternitz4;

@@ -1,4 +1,4 @@
-// Records that are tampered with, so that the practice hash gives way.
+//! Records that are tampered with, so that the practice hash gives way.
 
 // The strings of a release record, which lie from byte 8 on.
 fn strings(record: &mut [u8]) -> &mut [[u8; 16]] {
@@ -8,15 +8,15 @@ fn strings(record: &mut [u8]) -> &mut [[u8; 16]] {
     }
 }
 
-// Another string that the practice hash steps to the same: it halves each byte, so the lowest bit is lost.
+/// Another string that the practice hash steps to the same: it halves each byte, so the lowest bit is lost.
 pub(crate) fn step_twin(record: &mut [u8], k: usize) {
     if let Some(string) = strings(record).get_mut(k) {
         string[0] ^= 1;
     }
 }
 
-// Another two strings that the practice hash pairs to the same under masks of ones: it adds them, so what one gains the other
-// may lose.
+/// Another two strings that the practice hash pairs to the same under masks of ones: it adds them, so what one gains the other
+/// may lose.
 pub(crate) fn pair_twin(record: &mut [u8], k: usize) {
     let Some(row) = strings(record).get_mut(k..) else {
         return;

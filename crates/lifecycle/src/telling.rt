@@ -1,4 +1,5 @@
-// What is printed of refusals, strings and verdicts.
+//! What is printed of refusals, strings and verdicts.
+
 use strings::Hex;
 use verifier::Refusal;
 
@@ -7,7 +8,7 @@ pub(crate) fn tell_refusal(rt: &HostRuntime, what: &str, refusal: Refusal) -> an
     Ok(())
 }
 
-// A verdict, in words.
+/// A verdict, in words.
 pub(crate) fn tell_verdict(
     rt: &HostRuntime,
     (kind, first, second): (u8, u16, u16),

@@ -1,4 +1,5 @@
-// From bytes to outcomes.
+//! From bytes to outcomes.
+
 ghost use Rattle.std.specs.Prelude.{◌≡◌, ℕ, ◌<◌, List, ◌∷◌, length, IfOk, Result, OnErr};
 ghost use Rattle.schemes.specs.Names.{scheme_numbered};
 ghost use Rattle.orders.specs.Outcomes.{Outcomes, after_record};
@@ -24,7 +25,11 @@ fn check_order<'a, H: TreeHash, C: Code>(
     bytes: &'a [u8],
 ) -> (Result<u16, Refusal>, &'a [u8])
     requires { 0 < length bytes.now }
-    ensures first { (answers : List (Result ℕ Refusal)) → Outcomes (verify_rule (hash_of H.ChainHash H.TreeHash.own) (code_of C.Code) (key_of key.now)) result.1.now answers → Outcomes (verify_rule (hash_of H.ChainHash H.TreeHash.own) (code_of C.Code) (key_of key.now)) bytes.now (result.0 ∷ answers) }
+    ensures first { (answers : List (Result ℕ Refusal)) →
+        Outcomes (verify_rule (hash_of H.ChainHash H.TreeHash.own) (code_of C.Code)
+        (key_of key.now)) result.1.now answers →
+        Outcomes (verify_rule (hash_of H.ChainHash H.TreeHash.own) (code_of C.Code)
+        (key_of key.now)) bytes.now (result.0 ∷ answers) }
     ensures fewer { length result.1.now < length bytes.now }
 {
     let Some((stamp, rest)) = bytes.split_first_chunk::<16>() else {
@@ -40,9 +45,13 @@ fn check_orders<H: TreeHash, C: Code>(
     key: &OpenedKey<'_>,
     bytes: &[u8],
 ) -> Result<Vec<Result<u16, Refusal>>, AllocError>
-    ensures answers { IfOk result (λ v. Outcomes (verify_rule (hash_of H.ChainHash H.TreeHash.own) (code_of C.Code) (key_of key.now)) bytes.now v.items) }
+    ensures answers { IfOk result (λ v. Outcomes
+        (verify_rule (hash_of H.ChainHash H.TreeHash.own) (code_of C.Code) (key_of key.now))
+        bytes.now v.items) }
     ensures lacking { OnErr result (0 < length bytes.now) }
-    ensures only { IfOk result (λ v. (others : List (Result ℕ Refusal)) → Outcomes (verify_rule (hash_of H.ChainHash H.TreeHash.own) (code_of C.Code) (key_of key.now)) bytes.now others → others ≡ v.items) }
+    ensures only { IfOk result (λ v. (others : List (Result ℕ Refusal)) → Outcomes
+        (verify_rule (hash_of H.ChainHash H.TreeHash.own) (code_of C.Code) (key_of key.now))
+        bytes.now others → others ≡ v.items) }
 {
     let mut outcomes = Vec::new(heap);
     let mut rest = bytes;
@@ -75,7 +84,9 @@ struct Checking<'a> {
 impl Task for Checking<'_> {
     type Output = Result<Report, AllocError>;
 
-    ghost gives = { λ before h c result after. IfOk result (λ report. Checked h c (open_rule h.number c.number c.levels before.key.now) before.orders.now report) × OnErr result (0 < length before.orders.now) };
+    ghost gives = { λ before h c result after. IfOk result (λ report. Checked h c
+        (open_rule h.number c.number c.levels before.key.now) before.orders.now report)
+        × OnErr result (0 < length before.orders.now) };
 
     fn run<H: TreeHash, C: Code>(&mut self) -> Result<Report, AllocError> {
         match open::<H, C>(self.key) {
@@ -108,7 +119,9 @@ fn unknown(heap: Global, key: &[u8]) -> Report
 
 // The report by the hash and the code that the key record names.
 fn check_named(heap: Global, key: &[u8], orders: &[u8]) -> Result<Report, AllocError>
-    ensures report { IfOk result (λ report. CheckedBy (scheme_numbered (hash_number_of key.now) (code_number_of key.now)) key.now orders.now report) }
+    ensures report { IfOk result (λ report. CheckedBy
+        (scheme_numbered (hash_number_of key.now) (code_number_of key.now)) key.now orders.now
+        report) }
     ensures lacking { OnErr result (0 < length orders.now) }
 {
     let hash = byte_at(key, layout::HASH_NUMBER);
@@ -119,7 +132,7 @@ fn check_named(heap: Global, key: &[u8], orders: &[u8]) -> Result<Report, AllocE
     }
 }
 
-// Checks a key record and the orders that follow it, by the hash and code that the key record names.
+/// Checks a key record and the orders that follow it, by the hash and code that the key record names.
 pub fn check(heap: Global, input: &[u8]) -> Result<Report, AllocError>
     ensures report { IfOk result (λ report. Reports input.now report) }
     ensures lacking { OnErr result (0 < length (after_record input.now)) }

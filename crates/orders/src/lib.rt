@@ -1,4 +1,4 @@
-// Checks a key record and the orders that follow it, from bytes to outcomes.
+//! Checks a key record and the orders that follow it, from bytes to outcomes.
 #![tactic(auto)]
 
 mod checking;

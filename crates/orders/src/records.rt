@@ -1,4 +1,5 @@
-// Records one after the other.
+//! Records one after the other.
+
 ghost use Rattle.std.specs.Prelude.{◌≡◌, ◌≤◌, length};
 ghost use Rattle.orders.specs.Outcomes.{record_length, first_record, after_record};
 
@@ -18,7 +19,7 @@ fn record_length(bytes: &[u8]) -> usize
     }
 }
 
-// The first record in `bytes`, and what follows it.
+/// The first record in `bytes`, and what follows it.
 pub fn split_record(bytes: &[u8]) -> (&[u8], &[u8])
     ensures first { result.0.now ≡ first_record bytes.now }
     ensures rest { result.1.now ≡ after_record bytes.now }

@@ -1,8 +1,9 @@
-// What is reported of a key record and its orders.
+//! What is reported of a key record and its orders.
+
 use std::fmt;
 use verifier::Refusal;
 
-// What an opened key record names.
+/// What an opened key record names.
 #[derive(Clone, Copy)]
 pub struct KeySummary {
     pub hash: u8,
@@ -10,7 +11,7 @@ pub struct KeySummary {
     pub height: u8,
 }
 
-// The outcome of the key record, and of each order: the leaf number of one that opens.
+/// The outcome of the key record, and of each order: the leaf number of one that opens.
 #[derive(Drop)]
 pub struct Report {
     pub key: Result<KeySummary, Refusal>,

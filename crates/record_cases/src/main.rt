@@ -1,4 +1,4 @@
-// record_cases: grows the key of each case, signs, and compares both records with those that an independent model wrote.
+//! record_cases: grows the key of each case, signs, and compares both records with those that an independent model wrote.
 #![tactic(auto)]
 
 ghost use Rattle.std.specs.Prelude.{⊤};

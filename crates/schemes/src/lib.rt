@@ -1,4 +1,4 @@
-// The hashes and codes that records name by number, and work that is done with any of them.
+//! The hashes and codes that records name by number, and work that is done with any of them.
 #![tactic(auto)]
 
 mod names;

@@ -1,4 +1,5 @@
-// The names of the hashes and codes.
+//! The names of the hashes and codes.
+
 use aes128::Aes128Hash;
 use codes::{Code, DigitWidth, FourBits, LamportDiffie, TwoBits};
 use hashes::{ChainHash, Practice};

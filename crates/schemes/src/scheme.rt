@@ -1,4 +1,5 @@
-// A hash and a code, and work that is done with any of them.
+//! A hash and a code, and work that is done with any of them.
+
 ghost use Rattle.std.specs.Prelude.{◌≡◌};
 ghost use Rattle.schemes.specs.Names.{hash_named, code_named, scheme_numbered};
 ghost use Rattle.tree.specs.Meaning.{Hash, Code, hash_of, code_of};
@@ -10,7 +11,7 @@ use hashes::{Practice, TreeHash};
 use sha256::Sha256Hash;
 use verifier::Refusal;
 
-// Work that is written for any hash and code.
+/// Work that is written for any hash and code.
 pub trait Task {
     type Output;
 
@@ -19,12 +20,14 @@ pub trait Task {
     ghost gives: { Self → Hash → Code → Self.Output → Self → Type 0 };
 
     fn run<H: TreeHash, C: Code>(&mut self) -> Self::Output
-        ensures { gives self.old (hash_of H.ChainHash H.TreeHash.own) (code_of C.Code) result self.new };
+        ensures { gives self.old (hash_of H.ChainHash H.TreeHash.own) (code_of C.Code) result
+            self.new };
 }
 
 // Does the work with hash `H` and the code of this name.
 fn run_code<H: TreeHash, T: Task>(code: CodeName, task: &mut T) -> T::Output
-    ensures { T.gives task.old (hash_of H.ChainHash H.TreeHash.own) (code_named code) result task.new }
+    ensures { T.gives task.old (hash_of H.ChainHash H.TreeHash.own) (code_named code) result
+        task.new }
 {
     match code {
         CodeName::LamportDiffie => task.run::<H, LamportDiffie>(),
@@ -33,7 +36,7 @@ fn run_code<H: TreeHash, T: Task>(code: CodeName, task: &mut T) -> T::Output
     }
 }
 
-// A hash and a code, by their names.
+/// A hash and a code, by their names.
 #[derive(Clone, Copy, PartialEq, Eq, Debug)]
 pub struct Scheme {
     pub hash: HashName,
@@ -41,7 +44,7 @@ pub struct Scheme {
 }
 
 impl Scheme {
-    // The hash and the code with these numbers.
+    /// The hash and the code with these numbers.
     pub fn numbered(hash: u8, code: u8) -> Result<Scheme, Refusal>
         ensures { result ≡ scheme_numbered hash code }
     {
@@ -50,7 +53,7 @@ impl Scheme {
         Ok(Scheme { hash, code })
     }
 
-    // Does the work with the hash and the code.
+    /// Does the work with the hash and the code.
     pub fn run<T: Task>(self, task: &mut T) -> T::Output
         ensures { T.gives task.old (hash_named self.hash) (code_named self.code) result task.new }
     {

@@ -1,9 +1,10 @@
-// Answers, and the lines that are printed of them.
+//! Answers, and the lines that are printed of them.
+
 use std::fmt;
 use strings::Hex;
 use verifier::Refusal;
 
-// A node that a maker holds.
+/// A node that a maker holds.
 #[derive(Clone, Copy)]
 pub struct Node {
     pub level: u8,

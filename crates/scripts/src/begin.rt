@@ -1,4 +1,5 @@
-// The first call of a key.
+//! The first call of a key.
+
 ghost use Rattle.std.specs.Prelude.{◌≡◌};
 ghost use Rattle.scripts.specs.Begins.{start_of, start_rule};
 ghost use Rattle.verifier.specs.Rules.{seen};
@@ -7,7 +8,7 @@ use schemes::Scheme;
 use signer::Plan;
 use verifier::Refusal;
 
-// The numbers of a hash and a code, and what a key is grown from.
+/// The numbers of a hash and a code, and what a key is grown from.
 #[derive(Clone, Copy)]
 pub struct Begin {
     pub hash: u8,
@@ -18,7 +19,7 @@ pub struct Begin {
     pub masks: [u8; 512],
 }
 
-// What a begin names, where it is not refused.
+/// What a begin names, where it is not refused.
 #[derive(Clone, Copy)]
 pub struct Start {
     pub plan: Plan,
@@ -26,7 +27,7 @@ pub struct Start {
 }
 
 impl Begin {
-    // Refuses a height outside 1 to 8, and then a hash or code that is not known.
+    /// Refuses a height outside 1 to 8, and then a hash or code that is not known.
     pub fn start(&self) -> Result<Start, Refusal>
         ensures { seen start_of result ≡ start_rule self.now.hash self.now.code self.now.height }
     {

@@ -1,4 +1,5 @@
-// The calls of a key that is begun.
+//! The calls of a key that is begun.
+
 ghost use Rattle.std.specs.Prelude.{◌≡◌, IfOk, OnErr, true, codes, vec_items};
 ghost use Rattle.std.specs.Str.{bytes_eq};
 ghost use Rattle.std.specs.Option.{option_map};
@@ -96,13 +97,14 @@ fn read_trace(heap: Global, mut words: Words<'_>) -> Result<Option<Call>, AllocE
 }
 
 impl Call {
-    // The call with this name and these words.
+    /// The call with this name and these words.
     pub(crate) fn read(
         heap: Global,
         name: &str,
         words: Words<'_>,
     ) -> Result<Option<Call>, AllocError>
-        ensures call { IfOk result (λ o. option_map said o ≡ read_call name.now (left_of words.entry)) }
+        ensures call { IfOk result (λ o. option_map said o ≡ read_call name.now
+            (left_of words.entry)) }
         ensures lacking { OnErr result (bytes_eq name.now (codes "trace") ≡ true) }
     {
         match name {

@@ -1,8 +1,9 @@
-// Numbers as decimal digits.
+//! Numbers as decimal digits.
+
 ghost use Rattle.std.specs.Prelude.{◌≡◌, ◌≤◌, IfSome};
 ghost use Rattle.scripts.specs.Digits.{number_rule};
 
-// The number that a text of decimal digits names, where it is at most `most`.
+/// The number that a text of decimal digits names, where it is at most `most`.
 pub(crate) fn number(text: &[u8], most: u32) -> Option<u32>
     ensures value { result ≡ number_rule most text.now }
     ensures within { IfSome result (λ n. n ≤ most) }

@@ -1,4 +1,5 @@
-// Bytes as hex digits, two to a byte, in lower case.
+//! Bytes as hex digits, two to a byte, in lower case.
+
 ghost use Rattle.std.specs.Prelude.{◌≡◌, ◌<◌, length, IfSome, IfOk, vec_items};
 ghost use Rattle.std.specs.Option.{option_map};
 ghost use Rattle.scripts.specs.Hex.{hex_digit, byte_of, hex_bytes, hex_of};
@@ -38,7 +39,7 @@ fn fill(mut text: &[u8], out: &mut [u8]) -> Option<()>
     text.is_empty().then_some(())
 }
 
-// The bytes that a text names, where it is hex digits.
+/// The bytes that a text names, where it is hex digits.
 pub(crate) fn bytes(heap: Global, text: &[u8]) -> Result<Option<Vec<u8>>, AllocError>
     ensures { IfOk result (λ o. option_map vec_items o ≡ hex_bytes text.now) }
 {
@@ -52,7 +53,7 @@ pub(crate) fn bytes(heap: Global, text: &[u8]) -> Result<Option<Vec<u8>>, AllocE
     }
 }
 
-// The N bytes that a text names, where it is hex digits, two for each.
+/// The N bytes that a text names, where it is hex digits, two for each.
 pub(crate) fn array<const N: usize>(text: &[u8]) -> Option<[u8; N]>
     ensures { result ≡ hex_of N text.now }
 {

@@ -1,4 +1,4 @@
-// Scripts for a signer: lines of text are read as calls, a session answers them, and the answers are lines of text.
+//! Scripts for a signer: lines of text are read as calls, a session answers them, and the answers are lines of text.
 #![tactic(auto)]
 
 mod answer;

@@ -1,4 +1,5 @@
-// A line of a script.
+//! A line of a script.
+
 ghost use Rattle.std.specs.Prelude.{◌≡◌, IfOk, OnErr, true, codes};
 ghost use Rattle.std.specs.Str.{bytes_eq};
 ghost use Rattle.scripts.specs.Lines.{line_of, line_rule, read_begin};
@@ -8,12 +9,12 @@ use crate::words::{Words, split_word};
 use crate::{Begin, Call, hex};
 use std::alloc::{AllocError, Global};
 
-// As long as a line may be, in bytes.
+/// As long as a line may be, in bytes.
 pub const LONGEST: usize = 65_536;
 
 #[derive(Drop)]
 pub enum Line {
-    // Nothing to answer.
+    /// Nothing to answer.
     Silent,
     NoCall,
     Begin(Begin),
@@ -41,7 +42,7 @@ fn read_begin(mut words: Words<'_>) -> Option<Begin>
 }
 
 impl Line {
-    // Reads a line.
+    /// Reads a line.
     pub fn read(heap: Global, text: &[u8]) -> Result<Line, AllocError>
         ensures line { IfOk result (λ line. line_of line ≡ line_rule text.now) }
         ensures lacking { OnErr result (bytes_eq (word_of text.now) (codes "trace") ≡ true) }

@@ -1,4 +1,5 @@
-// A key from its begin on.
+//! A key from its begin on.
+
 ghost use Rattle.std.specs.Prelude.{◌≡◌, IfOk, OnErr};
 ghost use Rattle.histories.specs.Histories.{growing};
 ghost use Rattle.histories.specs.Rules.{begin_rule};
@@ -21,7 +22,7 @@ mod retired_calls;
 mod signer_calls;
 mod unchanged;
 
-// A key: being grown, in service, or retired.
+/// A key: being grown, in service, or retired.
 #[derive(Drop)]
 pub enum Session<H: TreeHash, C: Code> {
     Growing(Maker<H, C>),
@@ -30,17 +31,25 @@ pub enum Session<H: TreeHash, C: Code> {
 }
 
 impl<H: TreeHash, C: Code> Session<H, C> {
-    // Begins a key.
+    /// Begins a key.
     pub fn begin(plan: Plan, begin: &Begin) -> Session<H, C>
-        ensures { state_of result ≡ growing (begin_rule (record { seed = begin.now.seed; hash_key = begin.now.hash_key; masks = begin.now.masks; height = plan.height })) }
+        ensures { state_of result ≡ growing (begin_rule
+            (record {
+              seed = begin.now.seed;
+              hash_key = begin.now.hash_key;
+              masks = begin.now.masks;
+              height = plan.height;
+            })) }
     {
         Session::Growing(Maker::begin(plan, begin.seed, begin.hash_key, begin.masks))
     }
 
-    // Answers a call. One that the key does not have now changes nothing.
+    /// Answers a call. One that the key does not have now changes nothing.
     pub fn answer(self, heap: Global, call: &Call) -> Result<(Session<H, C>, Answer), AllocError>
-        ensures answer { IfOk result (λ x. told x.1 ≡ reply (hash_of H.ChainHash H.TreeHash.own) (code_of C.Code) (state_of self) (said call.now)) }
-        ensures state { IfOk result (λ x. state_of x.0 ≡ leaves (hash_of H.ChainHash H.TreeHash.own) (code_of C.Code) (state_of self) (said call.now)) }
+        ensures answer { IfOk result (λ x. told x.1 ≡ reply (hash_of H.ChainHash H.TreeHash.own)
+            (code_of C.Code) (state_of self) (said call.now)) }
+        ensures state { IfOk result (λ x. state_of x.0 ≡ leaves (hash_of H.ChainHash H.TreeHash.own)
+            (code_of C.Code) (state_of self) (said call.now)) }
         ensures lacking { OnErr result (Takes (said call.now)) }
     {
         match self {

@@ -1,4 +1,5 @@
-// Words with single spaces between them.
+//! Words with single spaces between them.
+
 ghost use Rattle.std.specs.Prelude.{◌≡◌, position, ◌==◌};
 ghost use Rattle.std.specs.Option.{option_map};
 ghost use Rattle.scripts.specs.Words.{word_of, after_word, left_of, left_after, byte_word, string_word};
@@ -6,7 +7,7 @@ ghost use Rattle.scripts.specs.Words.{word_of, after_word, left_of, left_after, 
 use crate::digits::number;
 use crate::hex;
 
-// The words of a line that are left, where any are.
+/// The words of a line that are left, where any are.
 #[derive(Clone, Copy)]
 pub struct Words<'a> {
     pub text: Option<&'a [u8]>,
@@ -19,7 +20,7 @@ fn first_space(text: &[u8]) -> Option<usize>
     text.iter().position(|byte| *byte == b' ')
 }
 
-// The first word of a text, and what follows the space after it.
+/// The first word of a text, and what follows the space after it.
 pub(crate) fn split_word(text: &[u8]) -> (&[u8], Words<'_>)
     ensures word { result.0.now ≡ word_of text.now }
     ensures rest { left_of result.1 ≡ after_word text.now }
@@ -46,16 +47,18 @@ impl<'a> Words<'a> {
         Some(word)
     }
 
-    // Takes the first word, a number of at most 255.
+    /// Takes the first word, a number of at most 255.
     pub(crate) fn byte(&mut self) -> Option<u8>
-        ensures { option_map (λ n. record { word = n; rest = left_of self.new }) result ≡ byte_word (left_of self.old) }
+        ensures { option_map (λ n. record { word = n; rest = left_of self.new }) result
+            ≡ byte_word (left_of self.old) }
     {
         Some(number(self.next()?, 255)? as u8)
     }
 
-    // Takes the first word, a string.
+    /// Takes the first word, a string.
     pub(crate) fn string(&mut self) -> Option<[u8; 16]>
-        ensures { option_map (λ s. record { word = s; rest = left_of self.new }) result ≡ string_word (left_of self.old) }
+        ensures { option_map (λ s. record { word = s; rest = left_of self.new }) result
+            ≡ string_word (left_of self.old) }
     {
         hex::array(self.next()?)
     }

@@ -1,4 +1,5 @@
-// The compression function: a hash value and a block to the next hash value.
+//! The compression function: a hash value and a block to the next hash value.
+
 ghost use Rattle.std.specs.Prelude.{◌≡◌};
 ghost use Rattle.sha256.specs.Compress as spec;
 

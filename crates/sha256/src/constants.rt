@@ -1,7 +1,8 @@
-// The constants of SHA-256, as FIPS 180-4 prints them.
+//! The constants of SHA-256, as FIPS 180-4 prints them.
+
 use crate::state::State;
 
-// The initial hash value.
+/// The initial hash value.
 pub(crate) const INITIAL: State = State {
     a: 0x6a09e667,
     b: 0xbb67ae85,
@@ -13,7 +14,7 @@ pub(crate) const INITIAL: State = State {
     h: 0x5be0cd19,
 };
 
-// One word for each round.
+/// One word for each round.
 pub(crate) const ROUND_WORDS: [u32; 64] = [
     0x428a2f98, 0x71374491, 0xb5c0fbcf, 0xe9b5dba5, 0x3956c25b, 0x59f111f1, 0x923f82a4, 0xab1c5ed5,
     0xd807aa98, 0x12835b01, 0x243185be, 0x550c7dc3, 0x72be5d74, 0x80deb1fe, 0x9bdc06a7, 0xc19bf174,

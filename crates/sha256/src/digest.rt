@@ -1,4 +1,5 @@
-// SHA-256 of a message: its whole blocks, then what is left of it with the padding.
+//! SHA-256 of a message: its whole blocks, then what is left of it with the padding.
+
 ghost use Rattle.std.specs.Prelude.{◌≡◌, ◌+◌, ◌*◌, ◌/◌, ◌%◌, ◌<◌, ◌++◌, length, take};
 ghost use Rattle.sha256.specs.Digest as spec;
 
@@ -54,7 +55,7 @@ fn state_bytes(s: &State) -> [u8; 32]
     bytes
 }
 
-// SHA-256 of a message of any length.
+/// SHA-256 of a message of any length.
 pub fn sha256(message: &[u8]) -> [u8; 32]
     ensures { result ≡ spec.sha256_of message.now }
 {

@@ -1,4 +1,5 @@
-// The functions on words that SHA-256 is made of: Ch, Maj, Σ0, Σ1, σ0 and σ1.
+//! The functions on words that SHA-256 is made of: Ch, Maj, Σ0, Σ1, σ0 and σ1.
+
 ghost use Rattle.std.specs.Prelude.{◌≡◌};
 ghost use Rattle.sha256.specs.Functions as spec;
 

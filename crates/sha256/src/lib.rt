@@ -1,4 +1,4 @@
-// SHA-256 (FIPS 180-4), and the tree hash that is made of it.
+//! SHA-256 (FIPS 180-4), and the tree hash that is made of it.
 #![tactic(auto)]
 
 mod compress;

@@ -1,4 +1,5 @@
-// The message schedule: 64 words from the 64 bytes of a block.
+//! The message schedule: 64 words from the 64 bytes of a block.
+
 ghost use Rattle.std.specs.Prelude.{◌≡◌, ◌<◌, ◌≤◌, take};
 ghost use Rattle.sha256.specs.Compress.{words, next_word, schedule};
 

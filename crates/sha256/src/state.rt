@@ -1,6 +1,6 @@
-// The hash value and the working variables of a compression.
+//! The hash value and the working variables of a compression.
 
-// Eight words: the hash value between two blocks, or the working variables between two rounds.
+/// Eight words: the hash value between two blocks, or the working variables between two rounds.
 #[derive(Clone, Copy)]
 pub(crate) struct State {
     pub(crate) a: u32,

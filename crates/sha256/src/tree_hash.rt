@@ -1,4 +1,5 @@
-// The tree hash that is made of SHA-256, cut to its first 16 bytes.
+//! The tree hash that is made of SHA-256, cut to its first 16 bytes.
+
 ghost use Rattle.std.specs.Prelude.{◌≡◌, take};
 ghost use Rattle.sha256.specs.TreeHash.{sha_step, sha_pair};
 ghost use Rattle.sha256.specs.Cut.{cut-str};
@@ -20,7 +21,7 @@ fn cut(digest: &[u8; 32]) -> [u8; 16]
     *digest.first_chunk().unwrap()
 }
 
-// The tree hash number 1.
+/// The tree hash number 1.
 pub struct Sha256Hash;
 
 impl ChainHash for Sha256Hash {

@@ -1,7 +1,8 @@
-// The ledger: which stamp each leaf was spent on.
+//! The ledger: which stamp each leaf was spent on.
+
 ghost use Rattle.std.specs.Prelude.{◌≡◌, ◌<◌, replicate, Some, None, slice_index_or, slice_set};
 
-// A row for each leaf: empty, or the stamp that was signed.
+/// A row for each leaf: empty, or the stamp that was signed.
 #[derive(Drop)]
 pub struct Ledger {
     rows: [Option<[u8; 16]>; 256],
@@ -14,7 +15,7 @@ impl Ledger {
         Ledger { rows: [None; 256] }
     }
 
-    // Enters a stamp in the row of a leaf; the other rows stay. No other call changes a row.
+    /// Enters a stamp in the row of a leaf; the other rows stay. No other call changes a row.
     pub(crate) fn enter(&mut self, leaf: u16, stamp: &[u8; 16])
         requires { leaf < 256 }
         ensures { self.new.rows ≡ slice_set self.old.rows leaf (Some stamp.now) }
@@ -22,7 +23,7 @@ impl Ledger {
         self.rows[leaf as usize] = Some(*stamp);
     }
 
-    // The row of a leaf.
+    /// The row of a leaf.
     pub(crate) fn row(&self, leaf: u16) -> Option<[u8; 16]>
         requires { leaf < 256 }
         ensures { result ≡ slice_index_or self.now.rows leaf None }

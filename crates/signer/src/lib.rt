@@ -1,4 +1,4 @@
-// The signer: a key is planned, begun, grown, put into service, signs, and is retired.
+//! The signer: a key is planned, begun, grown, put into service, signs, and is retired.
 #![tactic(auto)]
 
 mod ledger;

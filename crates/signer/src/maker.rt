@@ -1,4 +1,5 @@
-// A key that is being grown.
+//! A key that is being grown.
+
 ghost use Rattle.std.specs.Prelude.{ℕ, ◌^◌, ◌<◌, ◌≤◌, slice_index};
 ghost use Rattle.growth.specs.Grown.{Holds};
 ghost use Rattle.tree.specs.Meaning.{hash_of, code_of};
@@ -10,7 +11,7 @@ use std::marker::PhantomData;
 
 mod calls;
 
-// Only `begin` makes one. Its hash and code are fixed by its type.
+/// Only `begin` makes one. Its hash and code are fixed by its type.
 #[derive(Drop)]
 pub struct Maker<H: TreeHash, C: Code> {
     origin: Origin,
@@ -23,5 +24,6 @@ pub struct Maker<H: TreeHash, C: Code> {
     ghost tall: { (1 ≤ origin.height) × (origin.height ≤ 8) },
     ghost few: { grown ≤ 2 ^ origin.height },
     pub ghost holds: { Holds (hash_of H.ChainHash H.TreeHash) (code_of C.Code) origin grown nodes },
-    ghost bytes: { (i : ℕ) → (slice_index origin.seed i < 256) × (slice_index origin.hash_key i < 256) × (slice_index origin.masks i < 256) },
+    ghost bytes: { (i : ℕ) → (slice_index origin.seed i < 256)
+        × (slice_index origin.hash_key i < 256) × (slice_index origin.masks i < 256) },
 }

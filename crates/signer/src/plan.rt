@@ -1,11 +1,12 @@
-// The plan of a key.
+//! The plan of a key.
+
 ghost use Rattle.std.specs.Prelude.{◌≡◌, ◌≤◌};
 ghost use Rattle.histories.specs.Rules.{plan_rule};
 ghost use Rattle.verifier.specs.Rules.{seen};
 
 use verifier::Refusal;
 
-// A key of 2^height leaves.
+/// A key of 2^height leaves.
 #[derive(Clone, Copy)]
 pub struct Plan {
     height: u8,

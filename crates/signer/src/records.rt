@@ -1,4 +1,5 @@
-// Writing records.
+//! Writing records.
+
 ghost use Rattle.std.specs.Prelude.{◌≡◌, ◌+◌, ◌*◌, ◌^◌, ◌<◌, ◌≤◌, ◌++◌, length, take, drop};
 ghost use Rattle.growth.specs.Shown.{shown_row};
 ghost use Rattle.tree.specs.Meaning.{hash_of, code_of};
@@ -24,8 +25,8 @@ fn write_header(out: &mut [u8], kind: RecordKind, size: usize)
     put(out, 0, &[a, b, c, d, e, f]);
 }
 
-// Writes a key record at the start of the output; the bytes past it stay. `names` is the hash number, the code number,
-// the height and the spare byte.
+/// Writes a key record at the start of the output; the bytes past it stay. `names` is the hash number, the code number,
+/// the height and the spare byte.
 pub(crate) fn write_key(
     out: &mut [u8],
     names: &[u8; 4],
@@ -35,7 +36,8 @@ pub(crate) fn write_key(
 )
     requires room { 42 + length masks.now ≤ length out.old }
     requires short { 42 + length masks.now < 2 ^ 32 }
-    ensures { out.new ≡ framed 1 (names.now ++ (hash_key.now ++ (masks.now ++ root.now))) ++ drop (42 + length masks.now) out.old }
+    ensures { out.new ≡ framed 1 (names.now ++ (hash_key.now ++ (masks.now ++ root.now)))
+        ++ drop (42 + length masks.now) out.old }
 {
     let size = layout::BESIDE_MASKS + masks.len();
     write_header(out, RecordKind::Key, size);
@@ -57,8 +59,12 @@ fn write_shown<H: TreeHash, C: Code>(
 )
     requires there { leaf < 2 ^ tree.now.origin.now.height }
     requires room { release_length C.Code.COUNT tree.now.origin.now.height ≤ length out.old }
-    ensures after { out.new ≡ (take 8 out.old ++ shown_row (hash_of H.ChainHash H.TreeHash.own) (code_of C.Code) tree.now.origin.now leaf stamp.now) ++ drop (release_length C.Code.COUNT tree.now.origin.now.height) out.old }
-    ensures long { length (shown_row (hash_of H.ChainHash H.TreeHash.own) (code_of C.Code) tree.now.origin.now leaf stamp.now) ≡ 16 * (C.Code.COUNT + tree.now.origin.now.height) }
+    ensures after { out.new ≡ (take 8 out.old ++ shown_row (hash_of H.ChainHash H.TreeHash.own)
+        (code_of C.Code) tree.now.origin.now leaf stamp.now)
+        ++ drop (release_length C.Code.COUNT tree.now.origin.now.height) out.old }
+    ensures long { length (shown_row (hash_of H.ChainHash H.TreeHash.own) (code_of C.Code)
+        tree.now.origin.now leaf stamp.now)
+        ≡ 16 * (C.Code.COUNT + tree.now.origin.now.height) }
 {
     for k in 0..C::COUNT + tree.origin.height as usize {
         let string = tree.shown_string(leaf, stamp, k, work);
@@ -66,7 +72,7 @@ fn write_shown<H: TreeHash, C: Code>(
     }
 }
 
-// Writes the release record of a leaf at the start of the output; the bytes past it stay. The work buffer is used up.
+/// Writes the release record of a leaf at the start of the output; the bytes past it stay. The work buffer is used up.
 pub(crate) fn write_release<H: TreeHash, C: Code>(
     tree: &Tree<'_, H, C>,
     leaf: u16,
@@ -76,7 +82,9 @@ pub(crate) fn write_release<H: TreeHash, C: Code>(
 )
     requires there { leaf < 2 ^ tree.now.origin.now.height }
     requires room { release_length C.Code.COUNT tree.now.origin.now.height ≤ length out.old }
-    ensures { out.new ≡ release_bytes leaf (shown_row (hash_of H.ChainHash H.TreeHash.own) (code_of C.Code) tree.now.origin.now leaf stamp.now) ++ drop (release_length C.Code.COUNT tree.now.origin.now.height) out.old }
+    ensures { out.new ≡ release_bytes leaf (shown_row (hash_of H.ChainHash H.TreeHash.own)
+        (code_of C.Code) tree.now.origin.now leaf stamp.now)
+        ++ drop (release_length C.Code.COUNT tree.now.origin.now.height) out.old }
 {
     let size = release_length::<C>(tree.origin.height);
     write_header(out, RecordKind::Release, size);

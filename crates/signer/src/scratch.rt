@@ -1,7 +1,8 @@
-// The work buffer.
+//! The work buffer.
+
 ghost use Rattle.std.specs.Prelude.{◌≡◌, replicate};
 
-// Holds the work buffer while secrets are in it. However a call ends, every byte of the buffer is zero.
+/// Holds the work buffer while secrets are in it. However a call ends, every byte of the buffer is zero.
 pub struct Scratch<'a> {
     pub bytes: &'a mut [u8; 4096],
 }

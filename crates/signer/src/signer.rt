@@ -1,4 +1,5 @@
-// A key in service.
+//! A key in service.
+
 ghost use Rattle.std.specs.Prelude.{◌≡◌, ℕ, ◌^◌, ◌<◌, ◌≤◌, true, length, get_or, None, slice_index, slice_index_or};
 ghost use Rattle.growth.specs.Grown.{node_at};
 ghost use Rattle.histories.specs.States.{empty_row};
@@ -13,12 +14,12 @@ use std::marker::PhantomData;
 mod calls;
 mod tracing;
 
-// Only `finish` makes one.
+/// Only `finish` makes one.
 #[derive(Drop)]
 pub struct Signer<H: TreeHash, C: Code> {
     pub(crate) origin: Origin,
     pub(crate) root: [u8; 16],
-    // The next leaf to be spent.
+    /// The next leaf to be spent.
     pub(crate) next: u16,
     pub(crate) ledger: Ledger,
     pub(crate) hash: PhantomData<H>,
@@ -29,10 +30,11 @@ pub struct Signer<H: TreeHash, C: Code> {
     ghost sized: { (length origin.hash_key ≡ 16) × (length origin.masks ≡ 512) × (length root ≡ 16) },
     ghost fresh: { (i : ℕ) → next ≤ i → empty_row (slice_index_or ledger.rows i None) ≡ true },
     ghost seeded: { length origin.seed ≡ 16 },
-    ghost bytes: { (i : ℕ) → (slice_index origin.seed i < 256) × (slice_index origin.hash_key i < 256) × (slice_index origin.masks i < 256) },
+    ghost bytes: { (i : ℕ) → (slice_index origin.seed i < 256)
+        × (slice_index origin.hash_key i < 256) × (slice_index origin.masks i < 256) },
 }
 
-// A key out of service: it signs no more. Only `retire` makes one.
+/// A key out of service: it signs no more. Only `retire` makes one.
 #[derive(Drop)]
 pub struct Retired<H: TreeHash, C: Code> {
     signer: Signer<H, C>,

@@ -1,4 +1,4 @@
-// signer_cli: reads calls of a signer from standard input, a line for each, and prints a line of answer for each.
+//! signer_cli: reads calls of a signer from standard input, a line for each, and prints a line of answer for each.
 #![tactic(auto)]
 
 ghost use Rattle.std.specs.Prelude.{⊤};

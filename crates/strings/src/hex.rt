@@ -1,7 +1,8 @@
-// Bytes in hex.
+//! Bytes in hex.
+
 use std::fmt;
 
-// Bytes, printed as hex digits, two for each, in lower case.
+/// Bytes, printed as hex digits, two for each, in lower case.
 #[derive(Clone, Copy)]
 pub struct Hex<'a>(pub &'a [u8]);
 

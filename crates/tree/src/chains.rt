@@ -1,4 +1,5 @@
-// Chains of one-time strings.
+//! Chains of one-time strings.
+
 ghost use Rattle.std.specs.Prelude.{◌≡◌, ℕ, ◌-◌, ◌*◌, ◌<◌, ◌≤◌, length};
 ghost use Rattle.strings.specs.Strings.{string_at};
 ghost use Rattle.tree.specs.Nodes.{raise, one_time};
@@ -7,7 +8,7 @@ use codes::Code;
 use hashes::ChainHash;
 use strings::{put_string, string_at};
 
-// The string `times` steps up the chain from `string`.
+/// The string `times` steps up the chain from `string`.
 pub fn raise_chain<H: ChainHash>(key: &[u8; 16], string: &[u8; 16], times: u8) -> [u8; 16]
     ensures { result ≡ raise (H.ChainHash.steps key.now) times string.now }
 {
@@ -18,19 +19,20 @@ pub fn raise_chain<H: ChainHash>(key: &[u8; 16], string: &[u8; 16], times: u8) -
     at
 }
 
-// The top of chain number `place`, from its string at the height of the stamp's digit.
+/// The top of chain number `place`, from its string at the height of the stamp's digit.
 pub fn raise_to_top<H: ChainHash, C: Code>(
     key: &[u8; 16],
     stamp: &[u8; 16],
     place: usize,
     string: &[u8; 16],
 ) -> [u8; 16]
-    ensures { result ≡ raise (H.ChainHash.steps key.now) (C.Code.TOP - C.Code.digits stamp.now place) string.now }
+    ensures { result ≡ raise (H.ChainHash.steps key.now)
+        (C.Code.TOP - C.Code.digits stamp.now place) string.now }
 {
     raise_chain::<H>(key, string, C::TOP - C::digit(stamp, place))
 }
 
-// Fills a row with the one-time strings of a leaf, from the strings of its chains at the heights of the stamp's digits.
+/// Fills a row with the one-time strings of a leaf, from the strings of its chains at the heights of the stamp's digits.
 pub fn one_time_strings<H: ChainHash, C: Code>(
     key: &[u8; 16],
     stamp: &[u8; 16],
@@ -38,7 +40,9 @@ pub fn one_time_strings<H: ChainHash, C: Code>(
     row: &mut [u8; 4096],
 )
     requires { 16 * C.Code.COUNT ≤ length shown.now }
-    ensures { (k : ℕ) → k < 256 → string_at row.new k ≡ one_time (H.ChainHash.steps key.now) C.Code.COUNT C.Code.TOP (C.Code.digits stamp.now) (string_at shown.now) k }
+    ensures { (k : ℕ) → k < 256 →
+        string_at row.new k ≡ one_time (H.ChainHash.steps key.now) C.Code.COUNT C.Code.TOP
+        (C.Code.digits stamp.now) (string_at shown.now) k }
 {
     *row = [0; 4096];
     for k in 0..C::COUNT {

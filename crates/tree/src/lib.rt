@@ -1,4 +1,4 @@
-// Chains, the tree inside a leaf, and the path from a leaf to the root.
+//! Chains, the tree inside a leaf, and the path from a leaf to the root.
 #![tactic(auto)]
 
 pub mod chains;

@@ -1,4 +1,4 @@
-// vectors: runs the vectors that FIPS 180-4 and FIPS 197 publish, and prints pass or fail for each.
+//! vectors: runs the vectors that FIPS 180-4 and FIPS 197 publish, and prints pass or fail for each.
 #![tactic(auto)]
 
 use aes128::{encrypt, last_round_key};

@@ -1,11 +1,12 @@
-// What both kinds of record begin with.
+//! What both kinds of record begin with.
+
 ghost use Rattle.std.specs.Prelude.{◌≡◌};
 ghost use Rattle.verifier.specs.Kinds.{kind_number};
 ghost use Rattle.verifier.specs.Rules.{seen, header_rule};
 
 use crate::Refusal;
 
-// The kinds of record.
+/// The kinds of record.
 #[derive(Clone, Copy, PartialEq, Eq, Debug)]
 pub enum RecordKind {
     Key = 1,
@@ -13,7 +14,7 @@ pub enum RecordKind {
 }
 
 impl RecordKind {
-    // The number by which a record names its kind.
+    /// The number by which a record names its kind.
     pub fn number(self) -> u16
         ensures { result ≡ kind_number self }
     {
@@ -21,7 +22,7 @@ impl RecordKind {
     }
 }
 
-// The body of a record of this kind: what follows its length and kind.
+/// The body of a record of this kind: what follows its length and kind.
 pub fn body_of(bytes: &[u8], kind: RecordKind) -> Result<&[u8], Refusal>
     ensures { seen (λ x. x.now) result ≡ header_rule (kind_number kind) bytes.now }
 {

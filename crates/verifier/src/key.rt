@@ -1,10 +1,11 @@
-// An opened key: a key record as it lies in the caller's bytes, and its height.
+//! An opened key: a key record as it lies in the caller's bytes, and its height.
+
 ghost use Rattle.std.specs.Prelude.{◌≡◌, ◌+◌, ◌*◌, ◌≤◌, length};
 ghost use Rattle.verifier.specs.Records.{hash_key_of, masks_of, root_of};
 
 use crate::layout;
 
-// Only `open` makes one.
+/// Only `open` makes one.
 #[derive(Clone, Copy)]
 pub struct OpenedKey<'a> {
     pub(crate) bytes: &'a [u8],
@@ -14,7 +15,7 @@ pub struct OpenedKey<'a> {
 }
 
 impl<'a> OpenedKey<'a> {
-    // The key has 2^height leaves.
+    /// The key has 2^height leaves.
     pub fn height(&self) -> u8
         ensures { result ≡ self.now.height }
     {
@@ -27,7 +28,7 @@ impl<'a> OpenedKey<'a> {
         self.bytes[layout::HASH_KEY..].first_chunk().unwrap()
     }
 
-    // The left and right mask of each level, from the root down.
+    /// The left and right mask of each level, from the root down.
     pub(crate) fn masks(&self) -> &'a [u8]
         ensures { result.now ≡ masks_of self.now.bytes.now }
     {

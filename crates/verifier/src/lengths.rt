@@ -1,18 +1,19 @@
-// How long the records are.
+//! How long the records are.
+
 ghost use Rattle.std.specs.Prelude.{◌≡◌};
 ghost use Rattle.verifier.specs.Records.{key_length, release_length};
 
 use crate::layout;
 use codes::Code;
 
-// The bytes of the key record of a key of a height.
+/// The bytes of the key record of a key of a height.
 pub fn key_length<C: Code>(height: u8) -> usize
     ensures { result ≡ key_length height C.Code.LEVELS }
 {
     layout::BESIDE_MASKS + 32 * (height as usize + C::LEVELS as usize)
 }
 
-// The bytes of a release record under a key of a height.
+/// The bytes of a release record under a key of a height.
 pub fn release_length<C: Code>(height: u8) -> usize
     ensures { result ≡ release_length C.Code.COUNT height }
 {

@@ -1,4 +1,4 @@
-// The verifier: reads key and release records as they lie in the caller's bytes, and says whether a release opens.
+//! The verifier: reads key and release records as they lie in the caller's bytes, and says whether a release opens.
 #![tactic(auto)]
 
 mod header;

@@ -1,4 +1,5 @@
-// Why a call refuses.
+//! Why a call refuses.
+
 ghost use Rattle.std.specs.Prelude.{◌≡◌, Some};
 ghost use Rattle.std.specs.Fmt.{decimal};
 ghost use Rattle.verifier.specs.Refusals.{refusal_number};
@@ -7,34 +8,34 @@ use std::fmt;
 
 #[derive(Clone, Copy, PartialEq, Eq, Debug)]
 pub enum Refusal {
-    // A plan's height outside 1 to 8.
+    /// A plan's height outside 1 to 8.
     Plan = 1,
-    // All leaves of a key are in.
+    /// All leaves of a key are in.
     Grown = 2,
-    // All leaves of a signer are spent.
+    /// All leaves of a signer are spent.
     Spent = 3,
-    // An output that is shorter than the record.
+    /// An output that is shorter than the record.
     Output = 4,
-    // A leaf to skip to that is below the next one, or past the last.
+    /// A leaf to skip to that is below the next one, or past the last.
     Skip = 5,
-    // Fewer than 10 bytes, or a length field that differs from the number of bytes given.
+    /// Fewer than 10 bytes, or a length field that differs from the number of bytes given.
     Length = 6,
-    // Another kind of record than the wanted one.
+    /// Another kind of record than the wanted one.
     Kind = 7,
-    // Another hash, code or number of levels than the verifier's.
+    /// Another hash, code or number of levels than the verifier's.
     Parameters = 8,
-    // A height outside 1 to 8, or a spare byte other than 0.
+    /// A height outside 1 to 8, or a spare byte other than 0.
     Height = 9,
-    // A byte count other than the layout's.
+    /// A byte count other than the layout's.
     Layout = 10,
-    // A leaf number past the last leaf.
+    /// A leaf number past the last leaf.
     Leaf = 11,
-    // A rebuilt root unlike the key's.
+    /// A rebuilt root unlike the key's.
     Root = 12,
 }
 
 impl Refusal {
-    // The number by which programs name the refusal.
+    /// The number by which programs name the refusal.
     pub fn number(self) -> u8
         ensures { result ≡ refusal_number self }
     {

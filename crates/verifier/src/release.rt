@@ -1,4 +1,5 @@
-// Reading a release record.
+//! Reading a release record.
+
 ghost use Rattle.std.specs.Prelude.{◌≡◌, ℕ, true, List, drop};
 ghost use Rattle.tree.specs.Meaning.{code_of};
 ghost use Rattle.verifier.specs.Reads.{ReadsReleases};
@@ -12,17 +13,18 @@ use crate::{OpenedKey, RecordKind, Refusal, layout};
 use codes::Code;
 use hashes::ChainHash;
 
-// A release as it lies in the caller's bytes.
+/// A release as it lies in the caller's bytes.
 #[derive(Clone, Copy)]
 pub struct Release<'a> {
     pub leaf: u16,
-    // A string for each chain, then the siblings from the leaf's level up to level 1.
+    /// A string for each chain, then the siblings from the leaf's level up to level 1.
     pub row: &'a [u8],
 }
 
 // The leaf number and the strings in the body of a release record under a key of a height.
 fn parts_of<C: Code>(height: u8, body: &[u8]) -> Result<Release<'_>, Refusal>
-    ensures { (bytes : List ℕ) → body.now ≡ drop 6 bytes → seen shown_by result ≡ parts_rule C.Code.COUNT height bytes }
+    ensures { (bytes : List ℕ) → body.now ≡ drop 6 bytes →
+        seen shown_by result ≡ parts_rule C.Code.COUNT height bytes }
 {
     let [low, high, row @ ..] = body else {
         return Err(Refusal::Layout);
@@ -38,13 +40,15 @@ fn parts_of<C: Code>(height: u8, body: &[u8]) -> Result<Release<'_>, Refusal>
     Ok(Release { leaf, row })
 }
 
-// Reads a release record as it lies in `bytes`, under an opened key.
+/// Reads a release record as it lies in `bytes`, under an opened key.
 pub fn read_release<'a, H: ChainHash, C: Code>(
     key: &OpenedKey<'_>,
     bytes: &'a [u8],
 ) -> Result<Release<'a>, Refusal>
-    ensures answer { seen shown_by result ≡ read_rule H.ChainHash.NUMBER (code_of C.Code) (key_of key.now) bytes.now }
-    ensures reads { suited H.ChainHash.NUMBER C.Code.NUMBER C.Code.LEVELS (key_of key.now) ≡ true → ReadsReleases C.Code.COUNT key.now.height bytes.now (seen shown_by result) }
+    ensures answer { seen shown_by result ≡ read_rule H.ChainHash.NUMBER (code_of C.Code)
+        (key_of key.now) bytes.now }
+    ensures reads { suited H.ChainHash.NUMBER C.Code.NUMBER C.Code.LEVELS (key_of key.now) ≡ true →
+        ReadsReleases C.Code.COUNT key.now.height bytes.now (seen shown_by result) }
 {
     let body = body_of(bytes, RecordKind::Release)?;
     if !suits::<H, C>(key) {
@@ -53,7 +57,7 @@ pub fn read_release<'a, H: ChainHash, C: Code>(
     parts_of::<C>(key.height, body)
 }
 
-// Reads a release record as it lies in `bytes`, for its own signer, whose key has this height.
+/// Reads a release record as it lies in `bytes`, for its own signer, whose key has this height.
 pub fn read_own<C: Code>(height: u8, bytes: &[u8]) -> Result<Release<'_>, Refusal>
     ensures { seen shown_by result ≡ own_rule C.Code.COUNT height bytes.now }
 {

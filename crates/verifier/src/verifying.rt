@@ -1,4 +1,5 @@
-// Verifying a release.
+//! Verifying a release.
+
 ghost use Rattle.std.specs.Prelude.{◌≡◌};
 ghost use Rattle.tree.specs.Meaning.{hash_of, code_of};
 ghost use Rattle.verifier.specs.Rules.{verify_rule};
@@ -12,13 +13,14 @@ use std::marker::PhantomData;
 use strings::same;
 use tree::nodes::Joiner;
 
-// The leaf number of a release record that is good for the stamp under the opened key.
+/// The leaf number of a release record that is good for the stamp under the opened key.
 pub fn verify<H: TreeHash, C: Code>(
     key: &OpenedKey<'_>,
     stamp: &[u8; 16],
     bytes: &[u8],
 ) -> Result<u16, Refusal>
-    ensures { result ≡ verify_rule (hash_of H.ChainHash H.TreeHash.own) (code_of C.Code) (key_of key.now) stamp.now bytes.now }
+    ensures { result ≡ verify_rule (hash_of H.ChainHash H.TreeHash.own) (code_of C.Code)
+        (key_of key.now) stamp.now bytes.now }
 {
     let release = read_release::<H, C>(key, bytes)?;
     let joiner: Joiner<'_, H> = Joiner {

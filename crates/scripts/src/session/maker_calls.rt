@@ -1,4 +1,5 @@
-// The calls of a key that is being grown.
+//! The calls of a key that is being grown.
+
 ghost use Rattle.std.specs.Prelude.{◌≡◌, map, IfOk, OnErr};
 ghost use Rattle.histories.specs.Histories.{growing};
 ghost use Rattle.histories.specs.Rules.{grow_answer, grow_leaves};
@@ -36,7 +37,8 @@ fn held_nodes<H: TreeHash, C: Code>(
 
 fn grow<H: TreeHash, C: Code>(maker: &mut Maker<H, C>) -> Answer
     ensures answer { told result ≡ answered grown (grow_answer (making_of maker.old)) }
-    ensures state { making_of maker.new ≡ grow_leaves (hash_of H.ChainHash H.TreeHash.own) (code_of C.Code) (making_of maker.old) }
+    ensures state { making_of maker.new ≡ grow_leaves (hash_of H.ChainHash H.TreeHash.own)
+        (code_of C.Code) (making_of maker.old) }
 {
     let mut work = [0; 4096];
     maker
@@ -44,14 +46,16 @@ fn grow<H: TreeHash, C: Code>(maker: &mut Maker<H, C>) -> Answer
         .map_or_else(Answer::Refused, Answer::Grown)
 }
 
-// Answers a call of a key that is being grown.
+/// Answers a call of a key that is being grown.
 pub(crate) fn while_growing<H: TreeHash, C: Code>(
     heap: Global,
     mut maker: Maker<H, C>,
     call: &Call,
 ) -> Result<(Session<H, C>, Answer), AllocError>
-    ensures answer { IfOk result (λ x. told x.1 ≡ reply (hash_of H.ChainHash H.TreeHash.own) (code_of C.Code) (growing (making_of maker)) (said call.now)) }
-    ensures state { IfOk result (λ x. state_of x.0 ≡ leaves (hash_of H.ChainHash H.TreeHash.own) (code_of C.Code) (growing (making_of maker)) (said call.now)) }
+    ensures answer { IfOk result (λ x. told x.1 ≡ reply (hash_of H.ChainHash H.TreeHash.own)
+        (code_of C.Code) (growing (making_of maker)) (said call.now)) }
+    ensures state { IfOk result (λ x. state_of x.0 ≡ leaves (hash_of H.ChainHash H.TreeHash.own)
+        (code_of C.Code) (growing (making_of maker)) (said call.now)) }
     ensures lacking { OnErr result (Takes (said call.now)) }
 {
     let answer = match call {

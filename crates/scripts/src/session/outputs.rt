@@ -1,10 +1,11 @@
-// Outputs to be written.
+//! Outputs to be written.
+
 ghost use Rattle.std.specs.Prelude.{◌≡◌, IfOk};
 ghost use Rattle.scripts.specs.Replies.{output};
 
 use std::alloc::{AllocError, Global};
 
-// An output of `room` bytes.
+/// An output of `room` bytes.
 pub(crate) fn output_of(heap: Global, room: u32) -> Result<Vec<u8>, AllocError>
     ensures { IfOk result (λ v. v.items ≡ output room) }
 {

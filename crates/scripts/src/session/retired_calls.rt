@@ -1,4 +1,5 @@
-// The calls of a retired key.
+//! The calls of a retired key.
+
 ghost use Rattle.std.specs.Prelude.{◌≡◌, IfOk, OnErr};
 ghost use Rattle.histories.specs.Histories.{retired};
 ghost use Rattle.scripts.specs.Calls.{said};
@@ -13,14 +14,16 @@ use hashes::TreeHash;
 use signer::Retired;
 use std::alloc::{AllocError, Global};
 
-// Answers a call of a retired key.
+/// Answers a call of a retired key.
 pub(crate) fn out_of_service<H: TreeHash, C: Code>(
     heap: Global,
     signer: Retired<H, C>,
     call: &Call,
 ) -> Result<(Session<H, C>, Answer), AllocError>
-    ensures answer { IfOk result (λ x. told x.1 ≡ reply (hash_of H.ChainHash H.TreeHash.own) (code_of C.Code) (retired (signing_of signer.signer)) (said call.now)) }
-    ensures state { IfOk result (λ x. state_of x.0 ≡ leaves (hash_of H.ChainHash H.TreeHash.own) (code_of C.Code) (retired (signing_of signer.signer)) (said call.now)) }
+    ensures answer { IfOk result (λ x. told x.1 ≡ reply (hash_of H.ChainHash H.TreeHash.own)
+        (code_of C.Code) (retired (signing_of signer.signer)) (said call.now)) }
+    ensures state { IfOk result (λ x. state_of x.0 ≡ leaves (hash_of H.ChainHash H.TreeHash.own)
+        (code_of C.Code) (retired (signing_of signer.signer)) (said call.now)) }
     ensures lacking { OnErr result (Takes (said call.now)) }
 {
     let answer = match call {

@@ -1,4 +1,5 @@
-// The calls of a key in service.
+//! The calls of a key in service.
+
 ghost use Rattle.std.specs.Prelude.{◌≡◌, IfOk, OnOk, OnErr};
 ghost use Rattle.histories.specs.Histories.{serving};
 ghost use Rattle.histories.specs.Rules.{sign_state, skip_answer, skip_state};
@@ -21,8 +22,10 @@ fn sign<H: TreeHash, C: Code>(
     stamp: &[u8; 16],
     room: u32,
 ) -> Result<Answer, AllocError>
-    ensures answer { IfOk result (λ a. told a ≡ sign_reply (hash_of H.ChainHash H.TreeHash.own) (code_of C.Code) (signing_of signer.old) stamp.now room) }
-    ensures state { OnOk result (signing_of signer.new ≡ sign_state (code_of C.Code) (signing_of signer.old) stamp.now (output room)) }
+    ensures answer { IfOk result (λ a. told a ≡ sign_reply (hash_of H.ChainHash H.TreeHash.own)
+        (code_of C.Code) (signing_of signer.old) stamp.now room) }
+    ensures state { OnOk result (signing_of signer.new ≡ sign_state (code_of C.Code)
+        (signing_of signer.old) stamp.now (output room)) }
 {
     let mut work = [0; 4096];
     let mut out = output_of(heap, room)?;
@@ -42,14 +45,16 @@ fn skip<H: TreeHash, C: Code>(signer: &mut Signer<H, C>, leaf: u16) -> Answer
     signer.skip(leaf).map_or_else(Answer::Refused, Answer::Next)
 }
 
-// Answers a call of a key in service.
+/// Answers a call of a key in service.
 pub(crate) fn in_service<H: TreeHash, C: Code>(
     heap: Global,
     mut signer: Signer<H, C>,
     call: &Call,
 ) -> Result<(Session<H, C>, Answer), AllocError>
-    ensures answer { IfOk result (λ x. told x.1 ≡ reply (hash_of H.ChainHash H.TreeHash.own) (code_of C.Code) (serving (signing_of signer)) (said call.now)) }
-    ensures state { IfOk result (λ x. state_of x.0 ≡ leaves (hash_of H.ChainHash H.TreeHash.own) (code_of C.Code) (serving (signing_of signer)) (said call.now)) }
+    ensures answer { IfOk result (λ x. told x.1 ≡ reply (hash_of H.ChainHash H.TreeHash.own)
+        (code_of C.Code) (serving (signing_of signer)) (said call.now)) }
+    ensures state { IfOk result (λ x. state_of x.0 ≡ leaves (hash_of H.ChainHash H.TreeHash.own)
+        (code_of C.Code) (serving (signing_of signer)) (said call.now)) }
     ensures lacking { OnErr result (Takes (said call.now)) }
 {
     let answer = match call {

@@ -1,4 +1,5 @@
-// Beginning and growing a key.
+//! Beginning and growing a key.
+
 ghost use Rattle.std.specs.Prelude.{◌≡◌, ℕ, List, [], replicate, Some};
 ghost use Rattle.growth.specs.Grown.{node_at};
 ghost use Rattle.histories.specs.Histories.{growing, serving, grow, finish, Lived, Continues};
@@ -17,10 +18,13 @@ use strings::string_at;
 use verifier::Refusal;
 
 impl<H: TreeHash, C: Code> Maker<H, C> {
-    // Begins a key: no leaf is in. String 2a of the masks is the left mask of level a, string 2a + 1 the right one.
+    /// Begins a key: no leaf is in. String 2a of the masks is the left mask of level a, string 2a + 1 the right one.
     pub fn begin(plan: Plan, seed: [u8; 16], hash_key: [u8; 16], masks: [u8; 512]) -> Maker<H, C>
-        ensures state { making_of result ≡ begin_rule (record { seed = seed; hash_key = hash_key; masks = masks; height = plan.height }) }
-        ensures lived { Lived (hash_of H.ChainHash H.TreeHash.own) (code_of C.Code) (record { seed = seed; hash_key = hash_key; masks = masks; height = plan.height }) [] (growing (making_of result)) }
+        ensures state { making_of result ≡ begin_rule
+            (record { seed = seed; hash_key = hash_key; masks = masks; height = plan.height }) }
+        ensures lived { Lived (hash_of H.ChainHash H.TreeHash.own) (code_of C.Code)
+            (record { seed = seed; hash_key = hash_key; masks = masks; height = plan.height }) []
+            (growing (making_of result)) }
     {
         let height = plan.height();
         Maker {
@@ -37,11 +41,13 @@ impl<H: TreeHash, C: Code> Maker<H, C> {
         }
     }
 
-    // Adds the next leaf, and answers how many are in. Refuses where all leaves are in.
+    /// Adds the next leaf, and answers how many are in. Refuses where all leaves are in.
     pub fn grow(&mut self, work: &mut [u8; 4096]) -> Result<u16, Refusal>
         ensures answer { result ≡ grow_answer (making_of self.old) }
-        ensures state { making_of self.new ≡ grow_leaves (hash_of H.ChainHash H.TreeHash.own) (code_of C.Code) (making_of self.old) }
-        ensures lived { Continues (hash_of H.ChainHash H.TreeHash.own) (code_of C.Code) (growing (making_of self.old)) (grow result) (growing (making_of self.new)) }
+        ensures state { making_of self.new ≡ grow_leaves (hash_of H.ChainHash H.TreeHash.own)
+            (code_of C.Code) (making_of self.old) }
+        ensures lived { Continues (hash_of H.ChainHash H.TreeHash.own) (code_of C.Code)
+            (growing (making_of self.old)) (grow result) (growing (making_of self.new)) }
         ensures wiped { work.new ≡ replicate 4096 0 }
     {
         let guard = Scratch { bytes: work };
@@ -58,11 +64,13 @@ impl<H: TreeHash, C: Code> Maker<H, C> {
         Ok(self.grown)
     }
 
-    // The node that is held at a level, with its position: the last node that the leaves fill, where no larger full subtree
-    // has it.
+    /// The node that is held at a level, with its position: the last node that the leaves fill, where no larger full subtree
+    /// has it.
     pub fn held(&self, level: u8) -> Option<(u16, [u8; 16])>
         ensures value { result ≡ held_rule (making_of self.now) level }
-        ensures node { (b : ℕ) (s : List ℕ) → result ≡ Some (b, s) → s ≡ node_at (hash_of H.ChainHash H.TreeHash.own) (code_of C.Code) self.now.origin level b }
+        ensures node { (b : ℕ) (s : List ℕ) → result ≡ Some (b, s) →
+            s ≡ node_at (hash_of H.ChainHash H.TreeHash.own) (code_of C.Code) self.now.origin
+            level b }
     {
         if level > self.origin.height {
             return None;
@@ -75,11 +83,14 @@ impl<H: TreeHash, C: Code> Maker<H, C> {
         Some((full - 1, node))
     }
 
-    // Grows whatever leaves are lacking, and puts the key into service. The work buffer is zero after.
+    /// Grows whatever leaves are lacking, and puts the key into service. The work buffer is zero after.
     pub fn finish(self, work: &mut [u8; 4096]) -> Signer<H, C>
-        ensures state { signing_of result ≡ finish_rule (hash_of H.ChainHash H.TreeHash.own) (code_of C.Code) (making_of self) }
-        ensures rooted { result.root ≡ node_at (hash_of H.ChainHash H.TreeHash.own) (code_of C.Code) result.origin 0 0 }
-        ensures lived { Continues (hash_of H.ChainHash H.TreeHash.own) (code_of C.Code) (growing (making_of self)) finish (serving (signing_of result)) }
+        ensures state { signing_of result ≡ finish_rule (hash_of H.ChainHash H.TreeHash.own)
+            (code_of C.Code) (making_of self) }
+        ensures rooted { result.root ≡ node_at (hash_of H.ChainHash H.TreeHash.own) (code_of C.Code)
+            result.origin 0 0 }
+        ensures lived { Continues (hash_of H.ChainHash H.TreeHash.own) (code_of C.Code)
+            (growing (making_of self)) finish (serving (signing_of result)) }
         ensures wiped { work.new ≡ replicate 4096 0 }
     {
         let guard = Scratch { bytes: work };

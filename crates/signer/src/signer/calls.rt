@@ -1,4 +1,5 @@
-// The calls of a key in service.
+//! The calls of a key in service.
+
 ghost use Rattle.std.specs.Prelude.{◌≡◌, ◌^◌, ◌<◌, replicate};
 ghost use Rattle.histories.specs.Histories.{serving, retired, sign, skip, retire, Continues};
 ghost use Rattle.histories.specs.Rules.{Accepts, release_record, sign_answer, sign_state, sign_output, skip_answer, skip_state};
@@ -14,8 +15,8 @@ use hashes::TreeHash;
 use verifier::{Refusal, release_length};
 
 impl<H: TreeHash, C: Code> Signer<H, C> {
-    // Spends the next leaf on a stamp: writes the release record at the start of the output, and answers its length and
-    // its leaf number. Refuses where all leaves are spent, and an output that is shorter; then nothing changes.
+    /// Spends the next leaf on a stamp: writes the release record at the start of the output, and answers its length and
+    /// its leaf number. Refuses where all leaves are spent, and an output that is shorter; then nothing changes.
     pub fn sign(
         &mut self,
         stamp: &[u8; 16],
@@ -23,10 +24,19 @@ impl<H: TreeHash, C: Code> Signer<H, C> {
         work: &mut [u8; 4096],
     ) -> Result<(usize, u16), Refusal>
         ensures answer { result ≡ sign_answer (code_of C.Code) (signing_of self.old) out.old }
-        ensures state { signing_of self.new ≡ sign_state (code_of C.Code) (signing_of self.old) stamp.now out.old }
-        ensures output { out.new ≡ sign_output (hash_of H.ChainHash H.TreeHash.own) (code_of C.Code) (signing_of self.old) stamp.now out.old }
-        ensures accepts { self.old.next < 2 ^ self.old.origin.height → Accepts (hash_of H.ChainHash H.TreeHash.own) (code_of C.Code) (signing_of self.old) stamp.now (release_record (hash_of H.ChainHash H.TreeHash.own) (code_of C.Code) (signing_of self.old) stamp.now) self.old.next }
-        ensures lived { Continues (hash_of H.ChainHash H.TreeHash.own) (code_of C.Code) (serving (signing_of self.old)) (sign stamp.now out.old result out.new) (serving (signing_of self.new)) }
+        ensures state { signing_of self.new ≡ sign_state (code_of C.Code) (signing_of self.old)
+            stamp.now out.old }
+        ensures output { out.new ≡ sign_output (hash_of H.ChainHash H.TreeHash.own) (code_of C.Code)
+            (signing_of self.old) stamp.now out.old }
+        ensures accepts { self.old.next < 2 ^ self.old.origin.height →
+            Accepts (hash_of H.ChainHash H.TreeHash.own) (code_of C.Code) (signing_of self.old)
+            stamp.now
+            (release_record (hash_of H.ChainHash H.TreeHash.own) (code_of C.Code)
+            (signing_of self.old) stamp.now)
+            self.old.next }
+        ensures lived { Continues (hash_of H.ChainHash H.TreeHash.own) (code_of C.Code)
+            (serving (signing_of self.old)) (sign stamp.now out.old result out.new)
+            (serving (signing_of self.new)) }
         ensures wiped { work.new ≡ replicate 4096 0 }
     {
         let guard = Scratch { bytes: work };
@@ -49,12 +59,13 @@ impl<H: TreeHash, C: Code> Signer<H, C> {
         Ok((size, leaf))
     }
 
-    // Makes `leaf` the next leaf; the rows that are passed over stay empty. Refuses a number below the next leaf or above
-    // the number of leaves; then nothing changes.
+    /// Makes `leaf` the next leaf; the rows that are passed over stay empty. Refuses a number below the next leaf or above
+    /// the number of leaves; then nothing changes.
     pub fn skip(&mut self, leaf: u16) -> Result<u16, Refusal>
         ensures answer { result ≡ skip_answer (signing_of self.old) leaf }
         ensures state { signing_of self.new ≡ skip_state (signing_of self.old) leaf }
-        ensures lived { Continues (hash_of H.ChainHash H.TreeHash.own) (code_of C.Code) (serving (signing_of self.old)) (skip leaf result) (serving (signing_of self.new)) }
+        ensures lived { Continues (hash_of H.ChainHash H.TreeHash.own) (code_of C.Code)
+            (serving (signing_of self.old)) (skip leaf result) (serving (signing_of self.new)) }
     {
         if leaf < self.next || leaf > 1 << self.origin.height {
             return Err(Refusal::Skip);
@@ -63,10 +74,11 @@ impl<H: TreeHash, C: Code> Signer<H, C> {
         Ok(leaf)
     }
 
-    // Takes the key out of service.
+    /// Takes the key out of service.
     pub fn retire(self) -> Retired<H, C>
         ensures state { signing_of result.signer ≡ signing_of self }
-        ensures lived { Continues (hash_of H.ChainHash H.TreeHash.own) (code_of C.Code) (serving (signing_of self)) retire (retired (signing_of result.signer)) }
+        ensures lived { Continues (hash_of H.ChainHash H.TreeHash.own) (code_of C.Code)
+            (serving (signing_of self)) retire (retired (signing_of result.signer)) }
     {
         Retired { signer: self }
     }

@@ -1,4 +1,5 @@
-// Key records and traces, in service and out of it.
+//! Key records and traces, in service and out of it.
+
 ghost use Rattle.std.specs.Prelude.{◌≡◌, replicate, Ok};
 ghost use Rattle.histories.specs.Histories.{State, IsSigner, key, trace, Continues};
 ghost use Rattle.histories.specs.Promise.{Promised};
@@ -19,12 +20,19 @@ use strings::same;
 use verifier::{Refusal, key_length, layout, read_own};
 
 impl<H: TreeHash, C: Code> Signer<H, C> {
-    // Writes the key record at the start of the output, and answers its length. Refuses an output that is shorter; it stays.
+    /// Writes the key record at the start of the output, and answers its length. Refuses an output that is shorter; it stays.
     pub fn key(&self, out: &mut [u8]) -> Result<usize, Refusal>
         ensures answer { result ≡ key_answer (code_of C.Code) (signing_of self.now) out.old }
-        ensures output { out.new ≡ key_output (hash_of H.ChainHash H.TreeHash.own) (code_of C.Code) (signing_of self.now) out.old }
-        ensures opens { open_rule H.ChainHash.NUMBER C.Code.NUMBER C.Code.LEVELS (key_record (hash_of H.ChainHash H.TreeHash.own) (code_of C.Code) (signing_of self.now)) ≡ Ok (own_key (hash_of H.ChainHash H.TreeHash.own) (code_of C.Code) (signing_of self.now)) }
-        ensures lived { (x : State) → IsSigner x (signing_of self.now) → Continues (hash_of H.ChainHash H.TreeHash.own) (code_of C.Code) x (key out.old result out.new) x }
+        ensures output { out.new ≡ key_output (hash_of H.ChainHash H.TreeHash.own) (code_of C.Code)
+            (signing_of self.now) out.old }
+        ensures opens { open_rule H.ChainHash.NUMBER C.Code.NUMBER C.Code.LEVELS
+            (key_record (hash_of H.ChainHash H.TreeHash.own) (code_of C.Code)
+            (signing_of self.now))
+            ≡ Ok (own_key (hash_of H.ChainHash H.TreeHash.own) (code_of C.Code)
+            (signing_of self.now)) }
+        ensures lived { (x : State) → IsSigner x (signing_of self.now) →
+            Continues (hash_of H.ChainHash H.TreeHash.own) (code_of C.Code) x
+            (key out.old result out.new) x }
     {
         let size = key_length::<C>(self.origin.height);
         if out.len() < size {
@@ -41,10 +49,10 @@ impl<H: TreeHash, C: Code> Signer<H, C> {
         Ok(size)
     }
 
-    // Compares a release record with the ledger, and answers a verdict and two numbers: 0, the leaf and 0 where the record is
-    // ours; 1, a level and a position where two different inputs of pair have one value; 2, a chain and a height where two
-    // different strings step to one; 3, a chain and a height whose string was never revealed. The report then shows it. Refuses
-    // what verify refuses under this signer's key; the report then stays.
+    /// Compares a release record with the ledger, and answers a verdict and two numbers: 0, the leaf and 0 where the record is
+    /// ours; 1, a level and a position where two different inputs of pair have one value; 2, a chain and a height where two
+    /// different strings step to one; 3, a chain and a height whose string was never revealed. The report then shows it. Refuses
+    /// what verify refuses under this signer's key; the report then stays.
     pub fn trace<'a>(
         &'a self,
         stamp: &'a [u8; 16],
@@ -52,11 +60,17 @@ impl<H: TreeHash, C: Code> Signer<H, C> {
         report: &mut [u8; 64],
         work: &mut [u8; 4096],
     ) -> Result<(u8, u16, u16), Refusal>
-        ensures answer { result ≡ trace_answer (hash_of H.ChainHash H.TreeHash.own) (code_of C.Code) (signing_of self.now) stamp.now bytes.now }
-        ensures report { report.new ≡ trace_report (hash_of H.ChainHash H.TreeHash.own) (code_of C.Code) (signing_of self.now) stamp.now bytes.now report.old }
-        ensures finds { Finds (hash_of H.ChainHash H.TreeHash.own) (code_of C.Code) (signing_of self.now) stamp.now bytes.now result report.new }
-        ensures lived { (x : State) → IsSigner x (signing_of self.now) → Continues (hash_of H.ChainHash H.TreeHash.own) (code_of C.Code) x (trace stamp.now bytes.now report.old result report.new) x }
-        ensures promise { Promised (hash_of H.ChainHash H.TreeHash.own) (code_of C.Code) (signing_of self.now) stamp.now bytes.now result report.new }
+        ensures answer { result ≡ trace_answer (hash_of H.ChainHash H.TreeHash.own) (code_of C.Code)
+            (signing_of self.now) stamp.now bytes.now }
+        ensures report { report.new ≡ trace_report (hash_of H.ChainHash H.TreeHash.own)
+            (code_of C.Code) (signing_of self.now) stamp.now bytes.now report.old }
+        ensures finds { Finds (hash_of H.ChainHash H.TreeHash.own) (code_of C.Code)
+            (signing_of self.now) stamp.now bytes.now result report.new }
+        ensures lived { (x : State) → IsSigner x (signing_of self.now) →
+            Continues (hash_of H.ChainHash H.TreeHash.own) (code_of C.Code) x
+            (trace stamp.now bytes.now report.old result report.new) x }
+        ensures promise { Promised (hash_of H.ChainHash H.TreeHash.own) (code_of C.Code)
+            (signing_of self.now) stamp.now bytes.now result report.new }
         ensures wiped { work.new ≡ replicate 4096 0 }
     {
         let guard = Scratch { bytes: work };
