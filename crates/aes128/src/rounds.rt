@@ -65,14 +65,15 @@ fn mix_columns(state: &[u8; 16]) -> [u8; 16]
     )
 }
 
-/// Bytes may be substituted before or after the rows are shifted.
+/// A round before the last.
 pub(crate) fn full_round(state: &[u8; 16], round_key: &[u8; 16]) -> [u8; 16]
     ensures { result ≡ full_round state.now round_key.now }
 {
+    // The bytes are substituted as the columns are mixed, and so after the rows are shifted, which comes to the same.
     xor(&mix_columns(&shift_rows(state)), round_key)
 }
 
-/// The last round mixes no columns.
+/// The last round, which mixes no columns.
 pub(crate) fn final_round(state: &[u8; 16], round_key: &[u8; 16]) -> [u8; 16]
     ensures { result ≡ final_round state.now round_key.now }
 {

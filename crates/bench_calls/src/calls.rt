@@ -32,8 +32,8 @@ pub extern "C" fn verify_release(
     stamp: &[u8; 16],
     record: &[u8],
 ) -> Reply
-    ensures { result ≡ one_reply (numbered hash code
-        (λ h c. verified h c key.now stamp.now «record».now)) }
+    ensures { result ≡ one_reply
+        (numbered hash code (λ h c. verified h c key.now stamp.now «record».now)) }
 {
     let mut task = Verify {
         key,
@@ -53,8 +53,8 @@ pub extern "C" fn grow_leaves(
     level: u8,
     node: &mut [u8; 16],
 ) -> Reply
-    ensures answer { result ≡ two_reply (numbered hash code
-        (λ h c. grown h c source.now leaves level)) }
+    ensures answer { result ≡ two_reply
+        (numbered hash code (λ h c. grown h c source.now leaves level)) }
     ensures output { node.new ≡ numbered_output hash code node.old
         (λ h c. grown_node h c source.now leaves level node.old) }
 {
@@ -76,8 +76,8 @@ pub extern "C" fn write_key(
     turns: u32,
     out: &mut [u8],
 ) -> Reply
-    ensures answer { result ≡ one_reply (numbered hash code
-        (λ h c. keyed h c source.now turns out.old)) }
+    ensures answer { result ≡ one_reply
+        (numbered hash code (λ h c. keyed h c source.now turns out.old)) }
     ensures output { out.new ≡ numbered_output hash code out.old
         (λ h c. keyed_output h c source.now turns out.old) }
 {
@@ -95,8 +95,8 @@ pub extern "C" fn sign_release(
     stamp: &[u8; 16],
     out: &mut [u8],
 ) -> Reply
-    ensures answer { result ≡ two_reply (numbered hash code
-        (λ h c. signed h c source.now leaf out.old)) }
+    ensures answer { result ≡ two_reply
+        (numbered hash code (λ h c. signed h c source.now leaf out.old)) }
     ensures output { out.new ≡ numbered_output hash code out.old
         (λ h c. signed_output h c source.now leaf stamp.now out.old) }
 {

@@ -63,6 +63,7 @@ fn pairs<H: TreeHash>(key: &[u8], left: &[u8], right: &[u8], turns: u8, place: u
     byte_at(&join_on::<H>(key, left, right, turns), place)
 }
 
+/// Steps of hash 1.
 #[unsafe(no_mangle)]
 pub extern "C" fn sha256_steps(key: &[u8], string: &[u8], turns: u8, place: usize) -> u8
     ensures answered { length key.now ≡ 16 → length string.now ≡ 16 →
@@ -72,6 +73,7 @@ pub extern "C" fn sha256_steps(key: &[u8], string: &[u8], turns: u8, place: usiz
     steps::<Sha256Hash>(key, string, turns, place)
 }
 
+/// Pairs of hash 1.
 #[unsafe(no_mangle)]
 pub extern "C" fn sha256_pairs(key: &[u8], left: &[u8], right: &[u8], turns: u8, place: usize) -> u8
     ensures answered { length key.now ≡ 16 → length left.now ≡ 16 → length right.now ≡ 16 →
@@ -82,6 +84,7 @@ pub extern "C" fn sha256_pairs(key: &[u8], left: &[u8], right: &[u8], turns: u8,
     pairs::<Sha256Hash>(key, left, right, turns, place)
 }
 
+/// Steps of hash 2.
 #[unsafe(no_mangle)]
 pub extern "C" fn aes128_steps(key: &[u8], string: &[u8], turns: u8, place: usize) -> u8
     ensures answered { length key.now ≡ 16 → length string.now ≡ 16 →
@@ -91,6 +94,7 @@ pub extern "C" fn aes128_steps(key: &[u8], string: &[u8], turns: u8, place: usiz
     steps::<Aes128Hash>(key, string, turns, place)
 }
 
+/// Pairs of hash 2.
 #[unsafe(no_mangle)]
 pub extern "C" fn aes128_pairs(key: &[u8], left: &[u8], right: &[u8], turns: u8, place: usize) -> u8
     ensures answered { length key.now ≡ 16 → length left.now ≡ 16 → length right.now ≡ 16 →

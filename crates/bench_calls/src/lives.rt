@@ -68,8 +68,7 @@ impl Task for Grow<'_, '_> {
 
     ghost gives = { λ before h c result after.
         (result ≡ grown h c before.source.now before.leaves before.level)
-        × Wrote before.node
-        (grown_node h c before.source.now before.leaves before.level before.node.now) after.node };
+        × Wrote before.node (grown_node h c before.source.now before.leaves before.level before.node.now) after.node };
 
     fn run<H: TreeHash, C: Code>(&mut self) -> Result<(usize, u16), Refusal> {
         let mut maker = begin::<H, C>(self.source)?;
@@ -110,8 +109,7 @@ impl Task for Key<'_, '_> {
 
     ghost gives = { λ before h c result after.
         (result ≡ keyed h c before.source.now before.turns before.out.now)
-        × Wrote before.out
-        (keyed_output h c before.source.now before.turns before.out.now) after.out };
+        × Wrote before.out (keyed_output h c before.source.now before.turns before.out.now) after.out };
 
     fn run<H: TreeHash, C: Code>(&mut self) -> Result<usize, Refusal> {
         let mut work = [0; 4096];
@@ -151,9 +149,7 @@ impl Task for Sign<'_, '_> {
 
     ghost gives = { λ before h c result after.
         (result ≡ signed h c before.source.now before.leaf before.out.now)
-        × Wrote before.out
-        (signed_output h c before.source.now before.leaf before.stamp.now before.out.now)
-        after.out };
+        × Wrote before.out (signed_output h c before.source.now before.leaf before.stamp.now before.out.now) after.out };
 
     fn run<H: TreeHash, C: Code>(&mut self) -> Result<(usize, u16), Refusal> {
         let mut work = [0; 4096];
@@ -177,11 +173,11 @@ impl Task for Trace<'_, '_> {
     type Output = Result<(u8, u16, u16), Refusal>;
 
     ghost gives = { λ before h c result after.
-        (result ≡ traced h c before.source.now before.leaf before.spent.now before.stamp.now
-        before.release.now)
+        (result ≡
+        traced h c before.source.now before.leaf before.spent.now before.stamp.now before.release.now)
         × Wrote before.report
-        (traced_report h c before.source.now before.leaf before.spent.now before.stamp.now
-        before.release.now before.report.now) after.report };
+        (traced_report h c before.source.now before.leaf before.spent.now before.stamp.now before.release.now before.report.now)
+        after.report };
 
     fn run<H: TreeHash, C: Code>(&mut self) -> Result<(u8, u16, u16), Refusal> {
         let mut work = [0; 4096];

@@ -31,7 +31,7 @@ pub trait DigitWidth {
     // A whole number of digits makes a byte.
     ghost wide: { Width WIDTH };
 
-    // What the largest digit is.
+    // The largest digit lies from 1 to 15.
     ghost top_range: { (1 ≤ 2 ^ WIDTH - 1) × (2 ^ WIDTH - 1 ≤ 15) };
 
     // The checksum fits its digits, which take less than 16 bits.

@@ -37,7 +37,8 @@ fn step_both<H: ChainHash>(key: &[u8; 16], chain: u16, height: u8, at: &Sides) -
 // Both sides of a chain raised from one height to another.
 fn raise_both<H: ChainHash>(key: &[u8; 16], chain: u16, from: u8, to: u8, start: &Sides) -> Compared
     requires { from ≤ to }
-    ensures ours { result.sides.ours ≡ raise (H.ChainHash.steps key.now) (to - from) start.now.ours }
+    ensures ours { result.sides.ours ≡ raise (H.ChainHash.steps key.now) (to - from)
+        start.now.ours }
     ensures theirs { result.sides.theirs ≡ raise (H.ChainHash.steps key.now) (to - from)
         start.now.theirs }
     ensures find { result.find ≡ last_from (λ e. step_find (H.ChainHash.steps key.now) chain e
@@ -137,8 +138,8 @@ impl<H: TreeHash, C: Code> Subject<'_, H, C> {
     /// Compares the chains of the leaf, and fills two rows with its one-time strings: the signer's and the record's.
     pub(crate) fn compare_chains(&self, ours: &mut [u8; 4096], theirs: &mut [u8; 4096]) -> Chains
         ensures ours { (k : ℕ) → k < 256 →
-            string_at ours.new k ≡ leaf_string (hash_of H.ChainHash H.TreeHash.own)
-            (code_of C.Code) (traced_of self.now).origin self.now.leaf k }
+            string_at ours.new k ≡ leaf_string (hash_of H.ChainHash H.TreeHash.own) (code_of C.Code)
+            (traced_of self.now).origin self.now.leaf k }
         ensures theirs { (k : ℕ) → k < 256 →
             string_at theirs.new k ≡ their_one_time (hash_of H.ChainHash H.TreeHash.own)
             (code_of C.Code) (traced_of self.now) k }

@@ -105,11 +105,11 @@ impl<H: TreeHash, C: Code> Subject<'_, H, C> {
     /// The node of the leaf on both sides, over two rows with its one-time strings; and the first node below it, or itself,
     /// that hides that its children differ. The rows are used up.
     pub(crate) fn fold_both(&self, ours: &mut [u8; 4096], theirs: &mut [u8; 4096]) -> Compared
-        ensures ours { result.sides.ours ≡ node (join
-            (H.TreeHash.pairs self.now.tree.origin.now.hash_key) self.now.tree.origin.now.masks)
+        ensures ours { result.sides.ours ≡ node
+            (join (H.TreeHash.pairs self.now.tree.origin.now.hash_key) self.now.tree.origin.now.masks)
             (string_at ours.old) self.now.tree.origin.now.height C.Code.LEVELS 0 }
-        ensures theirs { result.sides.theirs ≡ node (join
-            (H.TreeHash.pairs self.now.tree.origin.now.hash_key) self.now.tree.origin.now.masks)
+        ensures theirs { result.sides.theirs ≡ node
+            (join (H.TreeHash.pairs self.now.tree.origin.now.hash_key) self.now.tree.origin.now.masks)
             (string_at theirs.old) self.now.tree.origin.now.height C.Code.LEVELS 0 }
         ensures find { result.find ≡ first_from (depth_search
             (H.TreeHash.pairs self.now.tree.origin.now.hash_key) self.now.tree.origin.now.masks

@@ -1,4 +1,4 @@
--- What is constant: a hash may be, a code may not.
+-- A hash may be constant; a code may not be blind to the stamp.
 -- Assumes nothing.
 use Rattle.std.specs.Prelude.{ℕ, List}
 use Rattle.std.proofs.Common.{rules}
@@ -8,5 +8,5 @@ pub constant-str : Str zero_string
 constant-str = search rules
 
 -- the digits of a code that looks at the place alone
-abbrev pub constant : (ℕ → ℕ) → List ℕ → ℕ → ℕ
-constant f m k = f k
+abbrev pub blind : (ℕ → ℕ) → List ℕ → ℕ → ℕ
+blind f m k = f k

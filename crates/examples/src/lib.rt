@@ -3,7 +3,7 @@
 
 ghost use Rattle.std.specs.Prelude.{◌≡◌, ℕ, length};
 ghost use Rattle.codes.specs.Codes.{Apart};
-ghost use Rattle.examples.specs.Constant.{constant};
+ghost use Rattle.examples.specs.Constant.{blind};
 ghost use Rattle.examples.specs.Examples.{examples, Worked};
 
 mod constant;
@@ -14,7 +14,7 @@ pub use constant::ConstantHash;
 pub fn worked_examples() -> usize
     ensures count { result ≡ length examples }
     ensures worked { Worked }
-    ensures lawless { (f : ℕ → ℕ) → Apart (constant f) → ⊥ }
+    ensures lawless { (f : ℕ → ℕ) → Apart (blind f) → ⊥ }
 {
     29
 }

@@ -26,8 +26,8 @@ impl<H: TreeHash, C: Code> Tree<'_, H, C> {
     // Fills the row with the one-time strings of a leaf.
     fn fill_leaf(&self, leaf: u16, row: &mut [u8; 4096])
         ensures { (k : ℕ) → k < 256 →
-            string_at row.new k ≡ leaf_string (hash_of H.ChainHash H.TreeHash.own)
-            (code_of C.Code) self.now.origin.now leaf k }
+            string_at row.new k ≡ leaf_string (hash_of H.ChainHash H.TreeHash.own) (code_of C.Code)
+            self.now.origin.now leaf k }
     {
         *row = [0; 4096];
         for k in 0..C::COUNT {

@@ -1,22 +1,24 @@
 //! Records that are tampered with, so that the practice hash gives way.
 
-// The strings of a release record, which lie from byte 8 on.
+use verifier::layout;
+
+// The strings of a release record.
 fn strings(record: &mut [u8]) -> &mut [[u8; 16]] {
-    match record.get_mut(8..) {
+    match record.get_mut(layout::ROW..) {
         Some(row) => row.as_chunks_mut().0,
         None => &mut [],
     }
 }
 
-/// Another string that the practice hash steps to the same: it halves each byte, so the lowest bit is lost.
+/// Puts in place of string `k` another one that the practice hash steps to the same: it halves each byte, so the lowest bit is lost.
 pub(crate) fn step_twin(record: &mut [u8], k: usize) {
     if let Some(string) = strings(record).get_mut(k) {
         string[0] ^= 1;
     }
 }
 
-/// Another two strings that the practice hash pairs to the same under masks of ones: it adds them, so what one gains the other
-/// may lose.
+/// Puts in place of strings `k` and `k + 1` two others that the practice hash pairs to the same under masks of ones: it adds them, so
+/// what one gains the other may lose.
 pub(crate) fn pair_twin(record: &mut [u8], k: usize) {
     let Some(row) = strings(record).get_mut(k..) else {
         return;

@@ -26,10 +26,12 @@ fn check_order<'a, H: TreeHash, C: Code>(
 ) -> (Result<u16, Refusal>, &'a [u8])
     requires { 0 < length bytes.now }
     ensures first { (answers : List (Result ℕ Refusal)) →
-        Outcomes (verify_rule (hash_of H.ChainHash H.TreeHash.own) (code_of C.Code)
-        (key_of key.now)) result.1.now answers →
-        Outcomes (verify_rule (hash_of H.ChainHash H.TreeHash.own) (code_of C.Code)
-        (key_of key.now)) bytes.now (result.0 ∷ answers) }
+        Outcomes
+        (verify_rule (hash_of H.ChainHash H.TreeHash.own) (code_of C.Code) (key_of key.now))
+        result.1.now answers →
+        Outcomes
+        (verify_rule (hash_of H.ChainHash H.TreeHash.own) (code_of C.Code) (key_of key.now))
+        bytes.now (result.0 ∷ answers) }
     ensures fewer { length result.1.now < length bytes.now }
 {
     let Some((stamp, rest)) = bytes.split_first_chunk::<16>() else {
@@ -84,8 +86,9 @@ struct Checking<'a> {
 impl Task for Checking<'_> {
     type Output = Result<Report, AllocError>;
 
-    ghost gives = { λ before h c result after. IfOk result (λ report. Checked h c
-        (open_rule h.number c.number c.levels before.key.now) before.orders.now report)
+    ghost gives = { λ before h c result after.
+        IfOk result
+        (λ report. Checked h c (open_rule h.number c.number c.levels before.key.now) before.orders.now report)
         × OnErr result (0 < length before.orders.now) };
 
     fn run<H: TreeHash, C: Code>(&mut self) -> Result<Report, AllocError> {

@@ -6,6 +6,7 @@ use hashes::{ChainHash, Practice};
 use sha256::Sha256Hash;
 use verifier::Refusal;
 
+/// The hashes that a key record can name.
 #[derive(Clone, Copy, PartialEq, Eq, Debug)]
 pub enum HashName {
     Sha256,
@@ -32,6 +33,7 @@ impl TryFrom<u8> for HashName {
     }
 }
 
+/// The codes that a key record can name.
 #[derive(Clone, Copy, PartialEq, Eq, Debug)]
 pub enum CodeName {
     LamportDiffie,

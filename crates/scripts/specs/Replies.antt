@@ -69,7 +69,7 @@ unfoldable pub held_below : Making → ℕ → List Held
 held_below m zero = []
 held_below m (suc n) = held_below m n ++ held_one n (signer_rules.held_rule m n)
 
--- on levels 0 to 8, since no key is higher
+-- all nodes that are held: those of levels 0 to 8, since no key is higher
 abbrev pub held_nodes : Making → List Held
 held_nodes m = held_below m 9
 

@@ -12,6 +12,7 @@ pub struct Node {
     pub node: [u8; 16],
 }
 
+/// What a call is answered with.
 #[derive(Drop)]
 pub enum Answer {
     Begun {

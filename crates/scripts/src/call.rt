@@ -17,6 +17,7 @@ const ROOM: u32 = 4_232;
 // As much room as can be asked for.
 const MOST_ROOM: u32 = 65_536;
 
+/// A call, with what it is given.
 #[derive(Drop)]
 pub enum Call {
     Grow,
@@ -103,8 +104,8 @@ impl Call {
         name: &str,
         words: Words<'_>,
     ) -> Result<Option<Call>, AllocError>
-        ensures call { IfOk result (λ o. option_map said o ≡ read_call name.now
-            (left_of words.entry)) }
+        ensures call { IfOk result
+            (λ o. option_map said o ≡ read_call name.now (left_of words.entry)) }
         ensures lacking { OnErr result (bytes_eq name.now (codes "trace") ≡ true) }
     {
         match name {

@@ -12,10 +12,12 @@ use std::alloc::{AllocError, Global};
 /// As long as a line may be, in bytes.
 pub const LONGEST: usize = 65_536;
 
+/// What a line asks for.
 #[derive(Drop)]
 pub enum Line {
     /// Nothing to answer.
     Silent,
+    /// Not a call.
     NoCall,
     Begin(Begin),
     Call(Call),

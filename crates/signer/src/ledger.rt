@@ -9,6 +9,7 @@ pub struct Ledger {
 }
 
 impl Ledger {
+    /// A ledger with no stamp in it.
     pub fn empty() -> Ledger
         ensures { result.rows ≡ replicate 256 None }
     {

@@ -11,7 +11,7 @@ use std::marker::PhantomData;
 
 mod calls;
 
-/// Only `begin` makes one. Its hash and code are fixed by its type.
+/// A key that is being grown; its hash and code are fixed by its type. Only `begin` makes one.
 #[derive(Drop)]
 pub struct Maker<H: TreeHash, C: Code> {
     origin: Origin,

@@ -14,6 +14,7 @@ pub struct Plan {
 }
 
 impl Plan {
+    /// The plan of a key of this height. Refuses a height outside 1 to 8.
     pub fn new(height: u8) -> Result<Plan, Refusal>
         ensures { seen (λ p. p.height) result ≡ plan_rule height }
     {
@@ -23,6 +24,7 @@ impl Plan {
         Ok(Plan { height })
     }
 
+    /// The height; the key has 2^height leaves.
     pub fn height(&self) -> u8
         ensures { result ≡ self.now.height }
     {

@@ -14,7 +14,7 @@ use std::marker::PhantomData;
 mod calls;
 mod tracing;
 
-/// Only `finish` makes one.
+/// A key in service, with its ledger. Only `finish` makes one.
 #[derive(Drop)]
 pub struct Signer<H: TreeHash, C: Code> {
     pub(crate) origin: Origin,

@@ -1,10 +1,10 @@
-//! vectors: runs the vectors that FIPS 180-4 and FIPS 197 publish, and prints pass or fail for each.
+//! vectors: runs published example vectors of SHA-256, and those of FIPS 197, and prints pass or fail for each.
 #![tactic(auto)]
 
 use aes128::{encrypt, last_round_key};
 use sha256::sha256;
 
-// A message, and the digest that FIPS 180-4 gives for it.
+// A message, and its published digest.
 #[derive(Clone, Copy)]
 struct Message<'a> {
     name: &'a str,

@@ -1,11 +1,11 @@
-//! An opened key: a key record as it lies in the caller's bytes, and its height.
+//! An opened key.
 
 ghost use Rattle.std.specs.Prelude.{◌≡◌, ◌+◌, ◌*◌, ◌≤◌, length};
 ghost use Rattle.verifier.specs.Records.{hash_key_of, masks_of, root_of};
 
 use crate::layout;
 
-/// Only `open` makes one.
+/// A key record that `open` read, as it lies in the caller's bytes, and its height. Only `open` makes one.
 #[derive(Clone, Copy)]
 pub struct OpenedKey<'a> {
     pub(crate) bytes: &'a [u8],
@@ -15,7 +15,7 @@ pub struct OpenedKey<'a> {
 }
 
 impl<'a> OpenedKey<'a> {
-    /// The key has 2^height leaves.
+    /// The height; the key has 2^height leaves.
     pub fn height(&self) -> u8
         ensures { result ≡ self.now.height }
     {

@@ -1,6 +1,6 @@
-//! Where the parts of the records begin.
+//! Where parts of the records begin, and how many bytes of a key record are not its masks.
 
-/// The body of either record: what follows its length and kind.
+/// The body of either record, which follows its length and kind.
 pub const BODY: usize = 6;
 
 /// In a key record: the hash's number.

@@ -34,11 +34,12 @@ pub fn open<H: ChainHash, C: Code>(bytes: &[u8]) -> Result<OpenedKey<'_>, Refusa
 
 /// Whether a verifier with hash `H` and code `C` opens this key too: whether it was opened with the same numbers and levels.
 pub fn suits<H: ChainHash, C: Code>(key: &OpenedKey<'_>) -> bool
-    ensures answer { result ≡ suited H.ChainHash.NUMBER C.Code.NUMBER C.Code.LEVELS (key_of key.now) }
+    ensures answer { result ≡ suited H.ChainHash.NUMBER C.Code.NUMBER C.Code.LEVELS
+        (key_of key.now) }
     ensures opened { (hash code levels : ℕ) →
         open_rule hash code levels (key_of key.now).bytes ≡ Ok (key_of key.now) →
-        (IsTrue result ↔ ((hash ≡ H.ChainHash.NUMBER) × (code ≡ C.Code.NUMBER)
-        × (levels ≡ C.Code.LEVELS))) }
+        (IsTrue result ↔
+        ((hash ≡ H.ChainHash.NUMBER) × (code ≡ C.Code.NUMBER) × (levels ≡ C.Code.LEVELS))) }
 {
     matches!(open::<H, C>(key.bytes), Ok(same) if same.height == key.height)
 }

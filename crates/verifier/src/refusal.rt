@@ -6,6 +6,7 @@ ghost use Rattle.verifier.specs.Refusals.{refusal_number};
 
 use std::fmt;
 
+/// Why a call refuses; each case has one number.
 #[derive(Clone, Copy, PartialEq, Eq, Debug)]
 pub enum Refusal {
     /// A plan's height outside 1 to 8.
@@ -16,7 +17,7 @@ pub enum Refusal {
     Spent = 3,
     /// An output that is shorter than the record.
     Output = 4,
-    /// A leaf to skip to that is below the next one, or past the last.
+    /// A leaf to skip to that is below the next one, or above the number of leaves.
     Skip = 5,
     /// Fewer than 10 bytes, or a length field that differs from the number of bytes given.
     Length = 6,

@@ -5,13 +5,13 @@ use Rattle.std.proofs.ByRecursion.{All-append}
 use Rattle.examples.specs.Examples.{Right, hashing, coding, measuring, skipping, tracing, examples}
 use Rattle.strings.specs.Strings.{Str, zero_string}
 use Rattle.codes.specs.Codes.{Apart}
-use Rattle.examples.specs.Constant.{constant}
+use Rattle.examples.specs.Constant.{blind}
 use Rattle.examples.proofs.Answered.{hashing-right, coding-right, measuring-right, skipping-right}
 use Rattle.examples.proofs.Traced.{tracing-right}
 use Rattle.examples.proofs.worked_examples.Goals as goal
 
 -- of two stamps, neither has a smaller digit than the other
-lawless : (f : ℕ → ℕ) → Apart (constant f) → ⊥
+lawless : (f : ℕ → ℕ) → Apart (blind f) → ⊥
 lawless f apart =
     let ones : List ℕ = replicate 16 1 in
     let str : Str zero_string = search rules in

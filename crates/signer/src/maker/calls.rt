@@ -69,8 +69,7 @@ impl<H: TreeHash, C: Code> Maker<H, C> {
     pub fn held(&self, level: u8) -> Option<(u16, [u8; 16])>
         ensures value { result ≡ held_rule (making_of self.now) level }
         ensures node { (b : ℕ) (s : List ℕ) → result ≡ Some (b, s) →
-            s ≡ node_at (hash_of H.ChainHash H.TreeHash.own) (code_of C.Code) self.now.origin
-            level b }
+            s ≡ node_at (hash_of H.ChainHash H.TreeHash.own) (code_of C.Code) self.now.origin level b }
     {
         if level > self.origin.height {
             return None;

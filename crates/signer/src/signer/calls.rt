@@ -29,10 +29,8 @@ impl<H: TreeHash, C: Code> Signer<H, C> {
         ensures output { out.new ≡ sign_output (hash_of H.ChainHash H.TreeHash.own) (code_of C.Code)
             (signing_of self.old) stamp.now out.old }
         ensures accepts { self.old.next < 2 ^ self.old.origin.height →
-            Accepts (hash_of H.ChainHash H.TreeHash.own) (code_of C.Code) (signing_of self.old)
-            stamp.now
-            (release_record (hash_of H.ChainHash H.TreeHash.own) (code_of C.Code)
-            (signing_of self.old) stamp.now)
+            Accepts (hash_of H.ChainHash H.TreeHash.own) (code_of C.Code) (signing_of self.old) stamp.now
+            (release_record (hash_of H.ChainHash H.TreeHash.own) (code_of C.Code) (signing_of self.old) stamp.now)
             self.old.next }
         ensures lived { Continues (hash_of H.ChainHash H.TreeHash.own) (code_of C.Code)
             (serving (signing_of self.old)) (sign stamp.now out.old result out.new)

@@ -26,10 +26,9 @@ impl<H: TreeHash, C: Code> Signer<H, C> {
         ensures output { out.new ≡ key_output (hash_of H.ChainHash H.TreeHash.own) (code_of C.Code)
             (signing_of self.now) out.old }
         ensures opens { open_rule H.ChainHash.NUMBER C.Code.NUMBER C.Code.LEVELS
-            (key_record (hash_of H.ChainHash H.TreeHash.own) (code_of C.Code)
-            (signing_of self.now))
-            ≡ Ok (own_key (hash_of H.ChainHash H.TreeHash.own) (code_of C.Code)
-            (signing_of self.now)) }
+            (key_record (hash_of H.ChainHash H.TreeHash.own) (code_of C.Code) (signing_of self.now))
+            ≡ Ok
+            (own_key (hash_of H.ChainHash H.TreeHash.own) (code_of C.Code) (signing_of self.now)) }
         ensures lived { (x : State) → IsSigner x (signing_of self.now) →
             Continues (hash_of H.ChainHash H.TreeHash.own) (code_of C.Code) x
             (key out.old result out.new) x }
