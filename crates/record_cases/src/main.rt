@@ -81,21 +81,17 @@ impl Task for Compare<'_, '_> {
         let mut work = [0; 4096];
         let mut key = [0; 1024];
         let mut release = [0; 8192];
-        let size = signer.key(&mut key).unwrap_or(0);
+        let size = signer.key(&mut key)?;
         let key = &key[..size.min(1024)];
-        let _ = signer.skip(u16::from(case.leaf));
-        let (size, _) = signer
-            .sign(case.stamp, &mut release, &mut work)
-            .unwrap_or((0, 0));
+        signer.skip(u16::from(case.leaf))?;
+        let (size, _) = signer.sign(case.stamp, &mut release, &mut work)?;
         let release = &release[..size.min(8192)];
         let key_verdict = verdict(case.has(key, 0));
         let release_verdict = verdict(case.has(release, key.len()));
         print!(self.rt; "key record {key_verdict}, release record {release_verdict}, ")?;
-        if let Ok(opened) = open::<H, C>(key)
-            && let Ok(leaf) = verify::<H, C>(&opened, case.stamp, release)
-        {
-            println!(self.rt; "verified at leaf {leaf}")?;
-        }
+        let opened = open::<H, C>(key)?;
+        let leaf = verify::<H, C>(&opened, case.stamp, release)?;
+        println!(self.rt; "verified at leaf {leaf}")?;
         Ok(())
     }
 }
