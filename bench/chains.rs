@@ -76,24 +76,26 @@ macro_rules! library_steps {
     };
 }
 
-// A step of hash 1 by a library.
+// What a step computes, in words that a library uses, and our steps.
 #[cfg(any(bearssl, openssl))]
-const fn sha256(other: &'static str, theirs: Run) -> Case {
-    Case {
-        what: "SHA-256 of 36 bytes",
-        other,
-        ours: our_steps!(sha256_steps),
-        theirs,
-    }
-}
+type Hash = (&'static str, Run);
 
-// A step of hash 2 by a library.
 #[cfg(any(bearssl, openssl))]
-const fn aes128(other: &'static str, theirs: Run) -> Case {
+const SHA256: Hash = ("SHA-256 of 36 bytes", our_steps!(sha256_steps));
+
+#[cfg(any(bearssl, openssl))]
+const AES128: Hash = (
+    "AES-128, key schedule and one block",
+    our_steps!(aes128_steps),
+);
+
+// Steps of a hash, by a library too.
+#[cfg(any(bearssl, openssl))]
+const fn library((what, ours): Hash, other: &'static str, theirs: Run) -> Case {
     Case {
-        what: "AES-128, key schedule and one block",
+        what,
         other,
-        ours: our_steps!(aes128_steps),
+        ours,
         theirs,
     }
 }
@@ -124,26 +126,38 @@ const CASES: &[Case] = &[
         theirs: plain_pairs!(aes128_pair),
     },
     #[cfg(bearssl)]
-    sha256("BearSSL's br_sha256", library_steps!(bearssl_sha256_steps)),
+    library(
+        SHA256,
+        "BearSSL's br_sha256",
+        library_steps!(bearssl_sha256_steps),
+    ),
     #[cfg(bearssl)]
-    aes128(
+    library(
+        AES128,
         "BearSSL's br_aes_big",
         library_steps!(bearssl_aes_big_steps),
     ),
     #[cfg(bearssl)]
-    aes128("BearSSL's br_aes_ct", library_steps!(bearssl_aes_ct_steps)),
+    library(
+        AES128,
+        "BearSSL's br_aes_ct",
+        library_steps!(bearssl_aes_ct_steps),
+    ),
     #[cfg(openssl)]
-    sha256(
+    library(
+        SHA256,
         "OpenSSL's SHA256 (with the processor's SHA or vector instructions)",
         library_steps!(openssl_sha256_steps),
     ),
     #[cfg(openssl)]
-    aes128(
+    library(
+        AES128,
         "OpenSSL's AES_encrypt (in assembly, without AES instructions)",
         library_steps!(openssl_aes_steps),
     ),
     #[cfg(openssl)]
-    aes128(
+    library(
+        AES128,
         "OpenSSL's EVP_aes_128_ecb (with the processor's AES instructions)",
         library_steps!(openssl_evp_steps),
     ),
