@@ -43,7 +43,7 @@ pub trait Code {
 
     ghost within: { (m : List ℕ) (k : ℕ) → Str m → digits m k ≤ TOP };
 
-    ghost past: { (m : List ℕ) (k : ℕ) → COUNT ≤ k → digits m k ≡ TOP };
+    ghost past: { (m : List ℕ) (k : ℕ) → Str m → COUNT ≤ k → digits m k ≡ TOP };
 
     // Of two different stamps, each has a digit smaller than the other's at the same place.
     ghost apart: { Apart digits };

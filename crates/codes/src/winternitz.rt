@@ -63,7 +63,7 @@ impl<W: DigitWidth> Code for Winternitz<W> {
 
     ghost within = { λ m k s. winternitz-within W.WIDTH W.ENDS m k };
 
-    ghost past = { λ m k h. winternitz-past W.WIDTH W.ENDS m k h };
+    ghost past = { λ m k s h. winternitz-past W.WIDTH W.ENDS m k h };
 
     ghost apart = { winternitz-apart W.WIDTH W.ENDS W.wide W.room };
 

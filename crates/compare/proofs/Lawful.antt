@@ -14,7 +14,7 @@ pub record Laws (hash : Hash) (code : Code) : Type 0 where
   pub top_range : (1 ≤ code.top) × (code.top ≤ 15)
   pub level_range : (1 ≤ code.levels) × (code.levels ≤ 8)
   pub within : (m : List ℕ) (k : ℕ) → Str m → code.digit m k ≤ code.top
-  pub past : (m : List ℕ) (k : ℕ) → code.count ≤ k → code.digit m k ≡ code.top
+  pub past : (m : List ℕ) (k : ℕ) → Str m → code.count ≤ k → code.digit m k ≡ code.top
   pub apart : (m n : List ℕ) → Str m → Str n → (m ≡ n → ⊥) → (k : ℕ) × (code.digit m k < code.digit n k)
 
 -- those, and a key that is made of strings

@@ -101,7 +101,7 @@ module _ (hash : Hash) (code : Code) (t : Traced) where
         let k = larger.0 in
         ⊎_elim
         (λ (lt : k < code.count). none k lt (omega (arith, revealed k, larger.1)))
-        (λ (le : code.count ≤ k). omega (arith, lawful.laws.past t.stamp k le, lawful.laws.past m k le, larger.1))
+        (λ (le : code.count ≤ k). omega (arith, lawful.laws.past t.stamp k str le, lawful.laws.past m k strm le, larger.1))
         (cases_lt k code.count))
 
   -- so the stamp is in that row

@@ -3,14 +3,13 @@
 use Rattle.std.specs.Prelude.{ℕ, if◌then◌else◌, Ok, Err, Result, ◌==◌}
 use Rattle.tree.specs.Meaning.{Hash, Code}
 use Rattle.verifier.specs.Rules.{after}
-use Rattle.verifier.specs.declared.refusal.Refusal.{Refusal}
-use Rattle.verifier.specs.declared.refusal.Refusal.TheVariants.{Parameters}
 use Rattle.schemes.specs.Known.{sha, aes, practice, lamport_diffie_code, winternitz2_code, winternitz4_code}
 use Rattle.schemes.specs.declared.names.HashName.{HashName}
 use Rattle.schemes.specs.declared.names.HashName.TheVariants.{Sha256, Aes128, Practice}
 use Rattle.schemes.specs.declared.names.CodeName.{CodeName}
 use Rattle.schemes.specs.declared.names.CodeName.TheVariants.{LamportDiffie, Winternitz2, Winternitz4}
 use Rattle.schemes.specs.declared.scheme.Scheme.{Scheme}
+use Rattle.schemes.specs.declared.unknown.UnknownScheme.{UnknownScheme}
 
 abbrev pub hash_named : HashName → Hash
 hash_named Sha256 = sha
@@ -22,20 +21,24 @@ code_named LamportDiffie = lamport_diffie_code
 code_named Winternitz2 = winternitz2_code
 code_named Winternitz4 = winternitz4_code
 
+-- no hash has the number, or no code
+abbrev pub no_such : UnknownScheme
+no_such = record {}
+
 -- the name of the hash with this number
-abbrev pub hash_name : ℕ → Result HashName Refusal
+abbrev pub hash_name : ℕ → Result HashName UnknownScheme
 hash_name n =
     if n == sha.number then Ok Sha256 else
     if n == aes.number then Ok Aes128 else
-    if n == practice.number then Ok Practice else Err Parameters
+    if n == practice.number then Ok Practice else Err no_such
 
 -- the name of the code with this number
-abbrev pub code_name : ℕ → Result CodeName Refusal
+abbrev pub code_name : ℕ → Result CodeName UnknownScheme
 code_name n =
     if n == lamport_diffie_code.number then Ok LamportDiffie else
     if n == winternitz2_code.number then Ok Winternitz2 else
-    if n == winternitz4_code.number then Ok Winternitz4 else Err Parameters
+    if n == winternitz4_code.number then Ok Winternitz4 else Err no_such
 
 -- the hash and the code with these numbers
-abbrev pub scheme_numbered : ℕ → ℕ → Result Scheme Refusal
+abbrev pub scheme_numbered : ℕ → ℕ → Result Scheme UnknownScheme
 scheme_numbered hash code = after (hash_name hash) (λ h. after (code_name code) (λ c. Ok (record { hash = h; code = c })))

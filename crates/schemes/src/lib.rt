@@ -3,6 +3,8 @@
 
 mod names;
 mod scheme;
+mod unknown;
 
 pub use names::{CodeName, HashName};
 pub use scheme::{Scheme, Task};
+pub use unknown::UnknownScheme;

@@ -1,10 +1,10 @@
 //! The names of the hashes and codes.
 
+use crate::UnknownScheme;
 use aes128::Aes128Hash;
 use codes::{Code, DigitWidth, FourBits, LamportDiffie, TwoBits};
 use hashes::{ChainHash, Practice};
 use sha256::Sha256Hash;
-use verifier::Refusal;
 
 /// The hashes that a key record can name.
 #[derive(Clone, Copy, PartialEq, Eq, Debug)]
@@ -19,16 +19,16 @@ impl TryFrom<u8> for HashName {
     ghost use Rattle.std.specs.Prelude.{◌≡◌};
     ghost use Rattle.schemes.specs.Names.{hash_name};
 
-    type Error = Refusal;
+    type Error = UnknownScheme;
 
     ghost try_from_gives = { λ number name. name ≡ hash_name number };
 
-    fn try_from(number: u8) -> Result<HashName, Refusal> {
+    fn try_from(number: u8) -> Result<HashName, UnknownScheme> {
         match number {
             Sha256Hash::NUMBER => Ok(HashName::Sha256),
             Aes128Hash::NUMBER => Ok(HashName::Aes128),
             Practice::NUMBER => Ok(HashName::Practice),
-            _ => Err(Refusal::Parameters),
+            _ => Err(UnknownScheme),
         }
     }
 }
@@ -46,16 +46,16 @@ impl TryFrom<u8> for CodeName {
     ghost use Rattle.std.specs.Prelude.{◌≡◌};
     ghost use Rattle.schemes.specs.Names.{code_name};
 
-    type Error = Refusal;
+    type Error = UnknownScheme;
 
     ghost try_from_gives = { λ number name. name ≡ code_name number };
 
-    fn try_from(number: u8) -> Result<CodeName, Refusal> {
+    fn try_from(number: u8) -> Result<CodeName, UnknownScheme> {
         match number {
             LamportDiffie::NUMBER => Ok(CodeName::LamportDiffie),
             TwoBits::NUMBER => Ok(CodeName::Winternitz2),
             FourBits::NUMBER => Ok(CodeName::Winternitz4),
-            _ => Err(Refusal::Parameters),
+            _ => Err(UnknownScheme),
         }
     }
 }

@@ -4,12 +4,11 @@ ghost use Rattle.std.specs.Prelude.{◌≡◌};
 ghost use Rattle.schemes.specs.Names.{hash_named, code_named, scheme_numbered};
 ghost use Rattle.tree.specs.Meaning.{Hash, Code, hash_of, code_of};
 
-use crate::{CodeName, HashName};
+use crate::{CodeName, HashName, UnknownScheme};
 use aes128::Aes128Hash;
 use codes::{Code, LamportDiffie, Winternitz2, Winternitz4};
 use hashes::{Practice, TreeHash};
 use sha256::Sha256Hash;
-use verifier::Refusal;
 
 /// Work that is written for any hash and code.
 pub trait Task {
@@ -45,7 +44,7 @@ pub struct Scheme {
 
 impl Scheme {
     /// The hash and the code with these numbers.
-    pub fn numbered(hash: u8, code: u8) -> Result<Scheme, Refusal>
+    pub fn numbered(hash: u8, code: u8) -> Result<Scheme, UnknownScheme>
         ensures { result ≡ scheme_numbered hash code }
     {
         let hash = HashName::try_from(hash)?;

@@ -14,12 +14,12 @@ abbrev pub refuse : {A : Type 0} → Bool → Refusal → Result A Refusal → R
 refuse test refusal rest = if test then Err refusal else rest
 
 -- an answer, with its value seen through f
-abbrev pub seen : {A B : Type 0} → (A → B) → Result A Refusal → Result B Refusal
+abbrev pub seen : {A B E : Type 0} → (A → B) → Result A E → Result B E
 seen f (Ok x) = Ok (f x)
 seen f (Err e) = Err e
 
--- what follows an answer that is no refusal
-abbrev pub after : {A B : Type 0} → Result A Refusal → (A → Result B Refusal) → Result B Refusal
+-- what follows an answer that is no error
+abbrev pub after : {A B E : Type 0} → Result A E → (A → Result B E) → Result B E
 after (Ok x) next = next x
 after (Err e) next = Err e
 
