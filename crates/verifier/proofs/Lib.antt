@@ -1,2 +1,3 @@
+pub mod Causing
 pub mod Facts
 pub mod Reading

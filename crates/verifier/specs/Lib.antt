@@ -1,3 +1,4 @@
+pub mod Causes
 pub mod Keys
 pub mod Kinds
 pub mod Reads
