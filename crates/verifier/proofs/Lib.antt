@@ -1,3 +1,4 @@
 pub mod Causing
 pub mod Facts
 pub mod Reading
+pub mod Refusing

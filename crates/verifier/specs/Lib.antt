@@ -1,4 +1,5 @@
 pub mod Causes
+pub mod Conditions
 pub mod Keys
 pub mod Kinds
 pub mod Reads

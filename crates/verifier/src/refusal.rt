@@ -1,8 +1,13 @@
 //! Why a call refuses.
 
-ghost use Rattle.std.specs.Prelude.{◌≡◌, Some};
+ghost use Rattle.std.specs.Prelude.{◌≡◌, ℕ, List, Some};
 ghost use Rattle.std.specs.Fmt.{decimal};
+ghost use Rattle.tree.specs.Meaning.{Hash, Code};
+ghost use Rattle.verifier.specs.Causes.{Refuses};
+ghost use Rattle.verifier.specs.Conditions.{Opening, OpenedWith, header_causes, open_causes, read_causes, own_causes, verify_causes};
+ghost use Rattle.verifier.specs.Keys.{Key};
 ghost use Rattle.verifier.specs.Refusals.{refusal_number};
+ghost use Rattle.verifier.specs.Rules.{header_rule, open_rule, read_rule, own_rule, verify_rule};
 
 use std::fmt;
 
@@ -36,9 +41,23 @@ pub enum Refusal {
 }
 
 impl Refusal {
-    /// The number by which programs name the refusal.
+    /// The number by which programs name the refusal. Each call of the verifier refuses with the first number in its list whose
+    /// condition holds, and answers where none does.
     pub fn number(self) -> u8
-        ensures { result ≡ refusal_number self }
+        ensures value { result ≡ refusal_number self }
+        ensures header { (kind : ℕ) (bytes : List ℕ) →
+            Refuses (header_causes kind bytes) (header_rule kind bytes) }
+        ensures open { (hash code levels : ℕ) (bytes : List ℕ) →
+            Refuses (open_causes hash code levels bytes) (open_rule hash code levels bytes) }
+        ensures read { (hash : ℕ) (code : Code) (by : Opening) (key : Key) (bytes : List ℕ) →
+            OpenedWith by key →
+            Refuses (read_causes hash code by key bytes) (read_rule hash code key bytes) }
+        ensures own { (count h : ℕ) (bytes : List ℕ) →
+            Refuses (own_causes count h bytes) (own_rule count h bytes) }
+        ensures verify { (hash : Hash) (code : Code) (by : Opening) (key : Key)
+            (stamp bytes : List ℕ) → OpenedWith by key →
+            Refuses (verify_causes hash code by key stamp bytes)
+            (verify_rule hash code key stamp bytes) }
     {
         self as u8
     }

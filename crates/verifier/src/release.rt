@@ -48,7 +48,7 @@ pub fn read_release<'a, H: ChainHash, C: Code>(
     ensures answer { seen shown_by result ≡ read_rule H.ChainHash.NUMBER (code_of C.Code)
         (key_of key.now) bytes.now }
     ensures reads { suited H.ChainHash.NUMBER C.Code.NUMBER C.Code.LEVELS (key_of key.now) ≡ true →
-        ReadsReleases C.Code.COUNT key.now.height bytes.now (seen shown_by result) }
+        ReadsReleases C.Code.COUNT (key_of key.now).height bytes.now (seen shown_by result) }
 {
     let body = body_of(bytes, RecordKind::Release)?;
     if !suits::<H, C>(key) {
