@@ -4,13 +4,13 @@ ghost use Rattle.std.specs.Prelude.{◌≡◌, ◌<◌, replicate, Some, None, s
 
 /// A row for each leaf: empty, or the stamp that was signed.
 #[derive(Drop)]
-pub struct Ledger {
+pub(crate) struct Ledger {
     rows: [Option<[u8; 16]>; 256],
 }
 
 impl Ledger {
     /// A ledger with no stamp in it.
-    pub fn empty() -> Ledger
+    pub(crate) fn empty() -> Ledger
         ensures { result.rows ≡ replicate 256 None }
     {
         Ledger { rows: [None; 256] }

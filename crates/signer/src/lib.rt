@@ -5,10 +5,11 @@ mod ledger;
 mod maker;
 mod plan;
 mod records;
+mod retired;
 mod scratch;
 mod signer;
 
-pub use ledger::Ledger;
 pub use maker::Maker;
 pub use plan::Plan;
-pub use signer::{Retired, Signer};
+pub use retired::Retired;
+pub use signer::Signer;

@@ -24,18 +24,12 @@ pub struct Signer<H: TreeHash, C: Code> {
     pub(crate) ledger: Ledger,
     pub(crate) hash: PhantomData<H>,
     pub(crate) code: PhantomData<C>,
-    ghost tall: { (1 ≤ origin.height) × (origin.height ≤ 8) },
-    ghost within: { next ≤ 2 ^ origin.height },
+    pub ghost tall: { (1 ≤ origin.height) × (origin.height ≤ 8) },
+    pub ghost within: { next ≤ 2 ^ origin.height },
     pub ghost rooted: { root ≡ node_at (hash_of H.ChainHash H.TreeHash) (code_of C.Code) origin 0 0 },
     ghost sized: { (length origin.hash_key ≡ 16) × (length origin.masks ≡ 512) × (length root ≡ 16) },
-    ghost fresh: { (i : ℕ) → next ≤ i → empty_row (slice_index_or ledger.rows i None) ≡ true },
+    pub ghost fresh: { (i : ℕ) → next ≤ i → empty_row (slice_index_or ledger.rows i None) ≡ true },
     ghost seeded: { length origin.seed ≡ 16 },
     ghost bytes: { (i : ℕ) → (slice_index origin.seed i < 256)
         × (slice_index origin.hash_key i < 256) × (slice_index origin.masks i < 256) },
-}
-
-/// A key out of service: it signs no more. Only `retire` makes one.
-#[derive(Drop)]
-pub struct Retired<H: TreeHash, C: Code> {
-    signer: Signer<H, C>,
 }

@@ -4,7 +4,7 @@ ghost use Rattle.std.specs.Prelude.{◌≡◌, ℕ, List, [], replicate, Some};
 ghost use Rattle.growth.specs.Grown.{node_at};
 ghost use Rattle.histories.specs.Histories.{growing, serving, grow, finish, Lived, Continues};
 ghost use Rattle.histories.specs.Rules.{begin_rule, grow_answer, grow_leaves, held_rule, finish_rule};
-ghost use Rattle.signer.specs.Views.{making_of, signing_of};
+ghost use Rattle.signer.specs.Views.{height_of_plan, making_of, signing_of};
 ghost use Rattle.tree.specs.Meaning.{hash_of, code_of};
 
 use crate::ledger::Ledger;
@@ -21,9 +21,9 @@ impl<H: TreeHash, C: Code> Maker<H, C> {
     /// Begins a key: no leaf is in. String 2a of the masks is the left mask of level a, string 2a + 1 the right one.
     pub fn begin(plan: Plan, seed: [u8; 16], hash_key: [u8; 16], masks: [u8; 512]) -> Maker<H, C>
         ensures state { making_of result ≡ begin_rule
-            (record { seed = seed; hash_key = hash_key; masks = masks; height = plan.height }) }
+            (record { seed = seed; hash_key = hash_key; masks = masks; height = height_of_plan plan }) }
         ensures lived { Lived (hash_of H.ChainHash H.TreeHash.own) (code_of C.Code)
-            (record { seed = seed; hash_key = hash_key; masks = masks; height = plan.height }) []
+            (record { seed = seed; hash_key = hash_key; masks = masks; height = height_of_plan plan }) []
             (growing (making_of result)) }
     {
         let height = plan.height();
@@ -69,7 +69,7 @@ impl<H: TreeHash, C: Code> Maker<H, C> {
     pub fn held(&self, level: u8) -> Option<(u16, [u8; 16])>
         ensures value { result ≡ held_rule (making_of self.now) level }
         ensures node { (b : ℕ) (s : List ℕ) → result ≡ Some (b, s) →
-            s ≡ node_at (hash_of H.ChainHash H.TreeHash.own) (code_of C.Code) self.now.origin level b }
+            s ≡ node_at (hash_of H.ChainHash H.TreeHash.own) (code_of C.Code) (making_of self.now).origin level b }
     {
         if level > self.origin.height {
             return None;
@@ -86,8 +86,8 @@ impl<H: TreeHash, C: Code> Maker<H, C> {
     pub fn finish(self, work: &mut [u8; 4096]) -> Signer<H, C>
         ensures state { signing_of result ≡ finish_rule (hash_of H.ChainHash H.TreeHash.own)
             (code_of C.Code) (making_of self) }
-        ensures rooted { result.root ≡ node_at (hash_of H.ChainHash H.TreeHash.own) (code_of C.Code)
-            result.origin 0 0 }
+        ensures rooted { (signing_of result).root ≡ node_at (hash_of H.ChainHash H.TreeHash.own)
+            (code_of C.Code) (signing_of result).origin 0 0 }
         ensures lived { Continues (hash_of H.ChainHash H.TreeHash.own) (code_of C.Code)
             (growing (making_of self)) finish (serving (signing_of result)) }
         ensures wiped { work.new ≡ replicate 4096 0 }

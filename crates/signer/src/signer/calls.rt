@@ -3,7 +3,7 @@
 ghost use Rattle.std.specs.Prelude.{◌≡◌, ◌^◌, ◌<◌, replicate};
 ghost use Rattle.histories.specs.Histories.{serving, retired, sign, skip, retire, Continues};
 ghost use Rattle.histories.specs.Rules.{Accepts, release_record, sign_answer, sign_state, sign_output, skip_answer, skip_state};
-ghost use Rattle.signer.specs.Views.{signing_of};
+ghost use Rattle.signer.specs.Views.{signing_of, signing_of_retired};
 ghost use Rattle.tree.specs.Meaning.{hash_of, code_of};
 
 use crate::records::write_release;
@@ -28,10 +28,10 @@ impl<H: TreeHash, C: Code> Signer<H, C> {
             stamp.now out.old }
         ensures output { out.new ≡ sign_output (hash_of H.ChainHash H.TreeHash.own) (code_of C.Code)
             (signing_of self.old) stamp.now out.old }
-        ensures accepts { self.old.next < 2 ^ self.old.origin.height →
+        ensures accepts { (signing_of self.old).next < 2 ^ (signing_of self.old).origin.height →
             Accepts (hash_of H.ChainHash H.TreeHash.own) (code_of C.Code) (signing_of self.old) stamp.now
             (release_record (hash_of H.ChainHash H.TreeHash.own) (code_of C.Code) (signing_of self.old) stamp.now)
-            self.old.next }
+            (signing_of self.old).next }
         ensures lived { Continues (hash_of H.ChainHash H.TreeHash.own) (code_of C.Code)
             (serving (signing_of self.old)) (sign stamp.now out.old result out.new)
             (serving (signing_of self.new)) }
@@ -74,9 +74,9 @@ impl<H: TreeHash, C: Code> Signer<H, C> {
 
     /// Takes the key out of service.
     pub fn retire(self) -> Retired<H, C>
-        ensures state { signing_of result.signer ≡ signing_of self }
+        ensures state { signing_of_retired result ≡ signing_of self }
         ensures lived { Continues (hash_of H.ChainHash H.TreeHash.own) (code_of C.Code)
-            (serving (signing_of self)) retire (retired (signing_of result.signer)) }
+            (serving (signing_of self)) retire (retired (signing_of_retired result)) }
     {
         Retired { signer: self }
     }

@@ -8,14 +8,13 @@ ghost use Rattle.signer.specs.Views.{signing_of};
 ghost use Rattle.tree.specs.Meaning.{hash_of, code_of};
 ghost use Rattle.verifier.specs.Rules.{open_rule};
 
+use crate::Signer;
 use crate::records::write_key;
 use crate::scratch::Scratch;
-use crate::{Retired, Signer};
 use codes::Code;
 use compare::Subject;
 use growth::Tree;
 use hashes::TreeHash;
-use std::ops::Deref;
 use strings::same;
 use verifier::{Refusal, key_length, layout, read_own};
 
@@ -91,16 +90,5 @@ impl<H: TreeHash, C: Code> Signer<H, C> {
         }
         *report = compared.verdict.report();
         Ok(compared.verdict.numbers(release.leaf))
-    }
-}
-
-// What a signer does unchanged is left to it when it is retired: its key record, and its traces.
-impl<H: TreeHash, C: Code> Deref for Retired<H, C> {
-    type Target = Signer<H, C>;
-
-    ghost deref_gives = { λ retired signer. signer ≡ retired.signer };
-
-    fn deref(&self) -> &Signer<H, C> {
-        &self.signer
     }
 }

@@ -1,0 +1,28 @@
+//! Planning a key.
+
+ghost use Rattle.std.specs.Prelude.{◌≡◌};
+ghost use Rattle.histories.specs.Rules.{plan_rule};
+ghost use Rattle.signer.specs.Views.{height_of_plan};
+ghost use Rattle.verifier.specs.Rules.{seen};
+
+use crate::Plan;
+use verifier::Refusal;
+
+impl Plan {
+    /// The plan of a key of this height. Refuses a height outside 1 to 8.
+    pub fn new(height: u8) -> Result<Plan, Refusal>
+        ensures { seen height_of_plan result ≡ plan_rule height }
+    {
+        if !(1..=8).contains(&height) {
+            return Err(Refusal::Plan);
+        }
+        Ok(Plan { height })
+    }
+
+    /// The height; the key has 2^height leaves.
+    pub fn height(&self) -> u8
+        ensures { result ≡ height_of_plan self.now }
+    {
+        self.height
+    }
+}
