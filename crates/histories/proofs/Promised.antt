@@ -20,7 +20,7 @@ use Rattle.verifier.specs.Records.{release_bytes, row_of}
 use Rattle.verifier.specs.Rules.{verify_rule}
 use Rattle.verifier.proofs.Facts.{after-at, ok_same}
 use Rattle.histories.specs.Histories.{State, IsSigner, History, Lived, Issued}
-use Rattle.histories.specs.Promise.{Revealed, SaysOurs, ShowsFirst, Breaks, pair_break, step_break, Promise}
+use Rattle.histories.specs.Promise.{Revealed, VerdictOurs, SaysOurs, ShowsFirst, Breaks, pair_break, step_break, Promise}
 use Rattle.histories.specs.Promise as promise
 use Rattle.histories.specs.Rules.{Accepts, own_key, traced_by, report_after, trace_answer, trace_report}
 use Rattle.histories.specs.States.{Signing}
@@ -79,15 +79,15 @@ module _ (hash : Hash) (code : Code) (laws : Laws hash code) (o : Origin) (w : H
         subst (λ r. Issued w i r stamp) (sym (g.written ∙ ap (release_bytes i) true_of.1)) (x.entered i stamp true_of.0)
 
     -- and of one that was issued nothing is found
-    issued-ours : Issued w i bytes stamp → SaysOurs (trace_answer hash code s stamp bytes)
-    issued-ours y =
+    issued-ours : (report : List ℕ) → Issued w i bytes stamp → SaysOurs i (trace_answer hash code s stamp bytes) (trace_report hash code s stamp bytes report)
+    issued-ours report y =
         let spent = x.issued i bytes stamp y in
         let is = found-only hash code t Ours (true-ours hash code t law tall str spent.row (ap row_of spent.is)) in
         let verified = own-verified hash code laws o w s x i stamp bytes (accepted hash code laws o w s x i bytes stamp y) in
-        (i, 0, answers verified ∙ ap (λ v. Ok (verdict_numbers i v)) (sym is))
+        (answers verified ∙ ap (λ v. Ok (verdict_numbers i v)) (sym is), reports verified report ∙ ap verdict_report (sym is))
 
-    -- so a record that trace calls ours was issued
-    says-issued : Accepts hash code s stamp bytes i → SaysOurs (trace_answer hash code s stamp bytes) → Issued w i bytes stamp
+    -- so a record with verdict 0 was issued
+    says-issued : Accepts hash code s stamp bytes i → VerdictOurs (trace_answer hash code s stamp bytes) → Issued w i bytes stamp
     says-issued a says =
         let g = given hash code laws o w s x i stamp bytes all a in
         let is = says-ours (found hash code t) i (ap (λ n. n.0) (ok_same (sym (answers g.verified) ∙ says.2))) in
@@ -122,7 +122,7 @@ promised {hash} {code} laws o w x s lived holds stamp bytes report str all =
     record {
       once = once hash code laws o w x lived;
       accepted = λ i issued m. accepted hash code laws o w s y i issued m;
-      ours = λ i. says-issued hash code laws o w s y stamp bytes str all i;
-      issued = λ i. issued-ours hash code laws o w s y stamp bytes str all i;
+      ours = λ i a says. let was = says-issued hash code laws o w s y stamp bytes str all i a says in (was, issued-ours hash code laws o w s y stamp bytes str all i report was);
+      issued = λ i. issued-ours hash code laws o w s y stamp bytes str all i report;
       broken = λ i a never. (shows-first hash code laws o w s y stamp bytes str all i a report, breaks hash code laws o w s y stamp bytes str all i a (never i) report);
     }

@@ -1,6 +1,6 @@
 -- What is promised of every history that leads to a signer, in service or retired, that traces a record.
 -- Assumes nothing.
-use Rattle.std.specs.Prelude.{◌≡◌, ℕ, ◌<◌, ◌≤◌, ◌⊎◌, List, ◌∷◌, ◌++◌, take, drop, Ok, Result, ◌≢◌}
+use Rattle.std.specs.Prelude.{◌≡◌, ℕ, ◌<◌, ◌≤◌, ◌⊎◌, List, ◌∷◌, ◌++◌, take, drop, replicate, Ok, Result, ◌≢◌}
 use Rattle.compare.specs.Found.{Found, verdict_numbers, verdict_report}
 use Rattle.compare.specs.declared.verdict.Verdict.{Verdict}
 use Rattle.growth.specs.Grown.{chain_string}
@@ -24,9 +24,13 @@ abbrev pub Revealed : Code → History → ℕ → ℕ → ℕ → Type 0
 Revealed code w i k e =
     (e ≡ code.top) ⊎ ((bytes : List ℕ) × (stamp : List ℕ) × Issued w i bytes stamp × (code.digit stamp k ≤ e) × (e ≤ code.top))
 
--- trace says that the record is ours
-abbrev pub SaysOurs : Result (ℕ × ℕ × ℕ) Refusal → Type 0
-SaysOurs r = (x : ℕ) × (y : ℕ) × (r ≡ Ok (0, x, y))
+-- the verdict is 0, whatever the two numbers and the report
+abbrev pub VerdictOurs : Result (ℕ × ℕ × ℕ) Refusal → Type 0
+VerdictOurs r = (x : ℕ) × (y : ℕ) × (r ≡ Ok (0, x, y))
+
+-- trace says that the record is ours, as leaf i: it answers 0, i and 0, and leaves a report of zeros
+abbrev pub SaysOurs : ℕ → Result (ℕ × ℕ × ℕ) Refusal → List ℕ → Type 0
+SaysOurs i r report = (r ≡ Ok (0, i, 0)) × (report ≡ replicate 64 0)
 
 -- trace shows where the hash gave way, for a record with leaf number i: its report holds two different inputs of pair with
 -- one value; or two different strings that step to one; or the signer's own string of a chain of this leaf, at the height of
@@ -46,9 +50,10 @@ pub record Promise (hash : Hash) (code : Code) (w : History) (s : Signing) (stam
   pub once : Once w
   -- verify accepts each record issued, with its stamp, as the leaf it was issued for
   pub accepted : (i : ℕ) (issued m : List ℕ) → Issued w i issued m → Accepts hash code s m issued i
-  -- of a record and a stamp that verify accepts, trace says "ours" exactly when the history issued this record for this stamp
-  pub ours : (i : ℕ) → Accepts hash code s stamp bytes i → SaysOurs r → Issued w i bytes stamp
-  pub issued : (i : ℕ) → Issued w i bytes stamp → SaysOurs r
+  -- of a record and a stamp that verify accepts as leaf i, the verdict is 0 exactly when the history issued this record as leaf i
+  -- for this stamp, and then trace says "ours": it answers 0, i and 0, and leaves a report of zeros
+  pub ours : (i : ℕ) → Accepts hash code s stamp bytes i → VerdictOurs r → Issued w i bytes stamp × SaysOurs i r report
+  pub issued : (i : ℕ) → Issued w i bytes stamp → SaysOurs i r report
   -- otherwise it shows a break: what is to be found first, and what that means
   pub broken : (i : ℕ) → Accepts hash code s stamp bytes i → ((j : ℕ) → Issued w j bytes stamp → ⊥) → ShowsFirst hash code s stamp bytes i r report × Breaks hash code w s stamp bytes i r report
 
