@@ -1,11 +1,12 @@
 -- A call that answers and leaves what its rule says continues every history.
 -- Assumes nothing.
 use Rattle.std.proofs.Common.{◌≡◌, ℕ, List, [], ◌∷◌, Result, sym, subst}
+use Rattle.std.proofs.Math.Logic.{∥∥₁_map}
 use Rattle.growth.specs.declared.origin.Origin.{Origin}
 use Rattle.strings.specs.Strings.{Str}
 use Rattle.tree.specs.Meaning.{Hash, Code}
 use Rattle.verifier.specs.declared.refusal.Refusal.{Refusal}
-use Rattle.histories.specs.Histories.{State, growing, serving, retired, IsSigner, Event, grow, finish, key, sign, skip, retire, trace, Begun, Lived, begun, grown, finished, keyed, signed, skipped, retires, traced, Continues}
+use Rattle.histories.specs.Histories.{State, growing, serving, retired, IsSigner, Event, grow, finish, key, sign, skip, retire, trace, Begun, Lived, begun, grown, finished, keyed, signed, skipped, retires, traced, HasLived, Continues}
 use Rattle.histories.specs.Rules.{begin_rule, grow_answer, grow_leaves, finish_rule, key_answer, key_output, sign_answer, sign_state, sign_output, skip_answer, skip_state, trace_answer, trace_report}
 use Rattle.histories.specs.States.{Making, Signing}
 
@@ -13,6 +14,10 @@ module _ (hash : Hash) (code : Code) where
   -- calls and states that are equal continue the same histories
   same : (x y y' : State) (e e' : Event) → e' ≡ e → y' ≡ y → Continues hash code x e y → Continues hash code x e' y'
   same x y y' e e' p q goes o w l = subst (λ call. Lived hash code o (call ∷ w) y') (sym p) (subst (Lived hash code o (e ∷ w)) (sym q) (goes o w l))
+
+  -- what a call leaves has a history behind it, where what it worked on has
+  pub lives-on : (x y : State) (e : Event) → Continues hash code x e y → HasLived hash code x → HasLived hash code y
+  lives-on x y e goes lived = ∥∥₁_map lived (λ l. (l.0, e ∷ l.1, goes l.0 l.1 l.2))
 
   pub grow-continues : (m m' : Making) (r : Result ℕ Refusal) → r ≡ grow_answer m → m' ≡ grow_leaves hash code m → Continues hash code (growing m) (grow r) (growing m')
   grow-continues m m' r p q = same (growing m) _ (growing m') _ (grow r) (λ i. grow (p i)) (λ i. growing (q i)) (λ o w l. grown w m l)

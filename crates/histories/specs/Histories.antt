@@ -51,6 +51,10 @@ pub data Lived (hash : Hash) (code : Code) (o : Origin) : History → State → 
   retires : (w : History) (s : Signing) → Lived hash code o w (serving s) → Lived hash code o (retire ∷ w) (retired s)
   traced : (w : History) (x : State) (s : Signing) (stamp bytes report : List ℕ) → IsSigner x s → Lived hash code o w x → Lived hash code o (trace stamp bytes report (trace_answer hash code s stamp bytes) (trace_report hash code s stamp bytes report) ∷ w) x
 
+-- some begin and some history of calls lead to this state
+abbrev pub HasLived : Hash → Code → State → Type 0
+HasLived hash code x = ∥ ((o : Origin) × (w : History) × Lived hash code o w x) ∥₁
+
 -- with this call added, every history that leads to the state x leads to the state y
 abbrev pub Continues : Hash → Code → State → Event → State → Type 0
 Continues hash code x call y = (o : Origin) (w : History) → Lived hash code o w x → Lived hash code o (call ∷ w) y

@@ -52,7 +52,8 @@ pub record Promise (hash : Hash) (code : Code) (w : History) (s : Signing) (stam
   pub accepted : (i : ℕ) (issued m : List ℕ) → Issued w i issued m → Accepts hash code s m issued i
   -- of a record and a stamp that verify accepts as leaf i, the verdict is 0 exactly when the history issued this record as leaf i
   -- for this stamp, and then trace says "ours": it answers 0, i and 0, and leaves a report of zeros
-  pub ours : (i : ℕ) → Accepts hash code s stamp bytes i → VerdictOurs r → Issued w i bytes stamp × SaysOurs i r report
+  pub ours : (i : ℕ) → Accepts hash code s stamp bytes i → VerdictOurs r →
+      Issued w i bytes stamp × SaysOurs i r report
   pub issued : (i : ℕ) → Issued w i bytes stamp → SaysOurs i r report
   -- otherwise it shows a break: what is to be found first, and what that means
   pub broken : (i : ℕ) → Accepts hash code s stamp bytes i → ((j : ℕ) → Issued w j bytes stamp → ⊥) → ShowsFirst hash code s stamp bytes i r report × Breaks hash code w s stamp bytes i r report

@@ -1,5 +1,8 @@
 //! A key out of service.
 
+ghost use Rattle.histories.specs.Histories.{retired, HasLived};
+ghost use Rattle.tree.specs.Meaning.{hash_of, code_of};
+
 use crate::Signer;
 use codes::Code;
 use hashes::TreeHash;
@@ -10,4 +13,7 @@ mod lending;
 #[derive(Drop)]
 pub struct Retired<H: TreeHash, C: Code> {
     pub(crate) signer: Signer<H, C>,
+    // Some begin and some history of calls lead to this retired signer.
+    pub ghost lived: { HasLived (hash_of H.ChainHash H.TreeHash) (code_of C.Code)
+        (retired (record { origin = signer.origin; root = signer.root; next = signer.next; rows = signer.ledger.rows })) },
 }

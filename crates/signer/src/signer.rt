@@ -2,6 +2,7 @@
 
 ghost use Rattle.std.specs.Prelude.{◌≡◌, ℕ, ◌^◌, ◌<◌, ◌≤◌, true, length, get_or, None, slice_index, slice_index_or};
 ghost use Rattle.growth.specs.Grown.{node_at};
+ghost use Rattle.histories.specs.Histories.{serving, HasLived};
 ghost use Rattle.histories.specs.States.{empty_row};
 ghost use Rattle.tree.specs.Meaning.{hash_of, code_of};
 
@@ -32,4 +33,7 @@ pub struct Signer<H: TreeHash, C: Code> {
     ghost seeded: { length origin.seed ≡ 16 },
     ghost bytes: { (i : ℕ) → (slice_index origin.seed i < 256)
         × (slice_index origin.hash_key i < 256) × (slice_index origin.masks i < 256) },
+    // Some begin and some history of calls lead to this signer.
+    pub ghost lived: { HasLived (hash_of H.ChainHash H.TreeHash) (code_of C.Code)
+        (serving (record { origin = origin; root = root; next = next; rows = ledger.rows })) },
 }

@@ -1,7 +1,7 @@
 //! The calls of a key in service.
 
 ghost use Rattle.std.specs.Prelude.{◌≡◌, ◌^◌, ◌<◌, replicate};
-ghost use Rattle.histories.specs.Histories.{serving, retired, sign, skip, retire, Continues};
+ghost use Rattle.histories.specs.Histories.{serving, retired, sign, skip, retire, HasLived, Continues};
 ghost use Rattle.histories.specs.Rules.{Accepts, release_record, sign_answer, sign_state, sign_output, skip_answer, skip_state};
 ghost use Rattle.signer.specs.Views.{signing_of, signing_of_retired};
 ghost use Rattle.tree.specs.Meaning.{hash_of, code_of};
@@ -77,6 +77,8 @@ impl<H: TreeHash, C: Code> Signer<H, C> {
         ensures state { signing_of_retired result ≡ signing_of self }
         ensures lived { Continues (hash_of H.ChainHash H.TreeHash.own) (code_of C.Code)
             (serving (signing_of self)) retire (retired (signing_of_retired result)) }
+        ensures behind { HasLived (hash_of H.ChainHash H.TreeHash.own) (code_of C.Code)
+            (retired (signing_of_retired result)) }
     {
         Retired { signer: self }
     }

@@ -1,7 +1,7 @@
 //! Key records and traces, in service and out of it.
 
 ghost use Rattle.std.specs.Prelude.{◌≡◌, replicate, Ok};
-ghost use Rattle.histories.specs.Histories.{State, IsSigner, key, trace, Continues};
+ghost use Rattle.histories.specs.Histories.{State, serving, IsSigner, key, trace, HasLived, Continues};
 ghost use Rattle.histories.specs.Promise.{Promised};
 ghost use Rattle.histories.specs.Rules.{key_record, own_key, key_answer, key_output, trace_answer, trace_report, Finds};
 ghost use Rattle.signer.specs.Views.{signing_of};
@@ -69,6 +69,8 @@ impl<H: TreeHash, C: Code> Signer<H, C> {
             (trace stamp.now bytes.now report.old result report.new) x }
         ensures promise { Promised (hash_of H.ChainHash H.TreeHash.own) (code_of C.Code)
             (signing_of self.now) stamp.now bytes.now result report.new }
+        ensures behind { HasLived (hash_of H.ChainHash H.TreeHash.own) (code_of C.Code)
+            (serving (signing_of self.now)) }
         ensures wiped { work.new ≡ replicate 4096 0 }
     {
         let guard = Scratch { bytes: work };

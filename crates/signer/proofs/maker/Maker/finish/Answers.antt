@@ -1,10 +1,9 @@
-use Rattle.std.proofs.Common.{◌≡◌, ◌^◌, ◌<◌, ap, ◌∙◌, subst, arith, rules}
+use Rattle.std.proofs.Common.{◌≡◌, ℕ, ◌^◌, ◌<◌, List, None, Option, replicate, ap, ◌∙◌, subst, arith, rules}
 use Rattle.std.proofs.lemmas.Nat.{one_shl}
 use Rattle.growth.specs.Grown.{node_at, Holds}
 use Rattle.growth.specs.declared.origin.Origin.{Origin}
 use Rattle.histories.specs.Rules.{finish_rule}
-use Rattle.histories.specs.States.{Signing}
-use Rattle.histories.proofs.Continuing.{finish-continues}
+use Rattle.histories.proofs.Continuing.{finish-continues, lives-on}
 use Rattle.growth.proofs.Trees.{holds-root}
 use Rattle.strings.specs.Strings.{string_at}
 use Rattle.tree.specs.Meaning.{Hash, Code, hash_of, code_of}
@@ -50,29 +49,34 @@ module _ (g : given.Over) (c : After-string_at-root g) where
   root_is : c.string_at-root.result ≡ node_at hash code o 0 0
   root_is = c.string_at-root.ensures ∙ holds-root hash code o c.loop-leaf.nodes (subst (λ n. Holds hash code o n c.loop-leaf.nodes) all (c.loop-leaf.invariant.3 c.args.self.holds))
 
+  -- and the signer that is made of it, with an empty ledger, is that of the rule
+  made : (rows : List (Option (List ℕ))) → rows ≡ replicate 256 None → record { origin = o; root = c.string_at-root.result; next = 0; rows = rows } ≡ finish_rule hash code (making_of c.args.self)
+  made rows none =
+      let last = leaves_all hash code o (2 ^ o.height) c.loop-leaf.leaf c.args.self.grown c.loop-leaf.nodes c.args.self.nodes all c.loop-leaf.invariant.2 in
+      λ i. record { origin = o; root = (c.string_at-root.ensures ∙ ap (λ l. string_at l 0) last) i; next = 0; rows = none i }
+
 pub returns : goal.returns
 returns g c =
     let at = (goal.at.returns g c).After-string_at-root in
-    let hash = hash g at in
-    let code = code g at in
-    let o = o g at in
-    let last = leaves_all hash code o (2 ^ o.height) c.loop-leaf.leaf c.args.self.grown c.loop-leaf.nodes c.args.self.nodes (all g at) c.loop-leaf.invariant.2 in
-    let state : ◌≡◌ {A = Signing} _ (finish_rule hash code (making_of c.args.self)) = λ i. record { origin = o; root = (c.string_at-root.ensures ∙ ap (λ l. string_at l 0) last) i; next = 0; rows = c.empty.ensures i } in
+    let state = made g at c.empty.result.rows c.empty.ensures in
     record {
       state = state;
-      lived = finish-continues hash code (making_of c.args.self) _ state;
+      lived = finish-continues (hash g at) (code g at) (making_of c.args.self) _ state;
       rooted = root_is g at;
       wiped = c.drop-guard.ensures;
     }
 
 pub invariant_of-result : goal.invariant_of-result
 invariant_of-result g c =
+    let at = (goal.at.invariant_of-result g c).After-string_at-root in
+    let state = made g at c.empty.result.rows c.empty.ensures in
     record {
       tall = c.args.self.tall;
       within = search rules;
-      rooted = root_is g (goal.at.invariant_of-result g c).After-string_at-root;
+      rooted = root_is g at;
       sized = search rules;
       fresh = λ i le. empty-fresh _ 256 i c.empty.ensures;
       seeded = search rules;
       bytes = c.args.self.bytes;
+      lived = lives-on (hash g at) (code g at) _ _ _ (finish-continues (hash g at) (code g at) (making_of c.args.self) _ state) c.args.self.lived;
     }

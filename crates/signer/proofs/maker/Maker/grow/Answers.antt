@@ -1,10 +1,14 @@
 use Rattle.std.proofs.Common.{◌≡◌, ◌+◌, Ok, Err, rules}
+use Rattle.histories.specs.Histories.{growing, grow, Continues}
 use Rattle.histories.specs.Rules.{grow_answer, grow_leaves}
-use Rattle.histories.proofs.Continuing.{grow-continues}
+use Rattle.histories.specs.States.{Making}
+use Rattle.histories.proofs.Continuing.{grow-continues, lives-on}
 use Rattle.tree.specs.Meaning.{hash_of, code_of}
 use Rattle.verifier.specs.declared.refusal.Refusal.TheVariants.{Grown}
 use Rattle.signer.specs.Views.{making_of}
+use Rattle.signer.proofs.maker.Maker.grow.Given as given
 use Rattle.signer.proofs.maker.Maker.grow.Goals as goal
+use Rattle.signer.proofs.maker.Maker.grow.Goals.{After-add_leaf}
 
 pub returns-then-self : goal.returns-then-self
 returns-then-self g c =
@@ -20,16 +24,33 @@ returns-then-self g c =
       wiped = c.drop-guard.ensures;
     }
 
+module _ (g : given.Over) (c : After-add_leaf g) where
+  abbrev before : Making
+  before = making_of c.args.self.now
+
+  abbrev later : Making
+  later = record { origin = before.origin; grown = before.grown + 1; nodes = c.add_leaf.new.nodes }
+
+  answers : Ok (before.grown + 1) ≡ grow_answer before
+  answers = search rules
+
+  leaves : later ≡ grow_leaves (hash_of g.H.ChainHash g.H.TreeHash) (code_of g.C.Code) before
+  leaves = search rules
+
+  continues : Continues (hash_of g.H.ChainHash g.H.TreeHash) (code_of g.C.Code) (growing before) (grow (Ok (before.grown + 1))) (growing later)
+  continues = grow-continues (hash_of g.H.ChainHash g.H.TreeHash) (code_of g.C.Code) before later (Ok (before.grown + 1)) answers leaves
+
 pub returns : goal.returns
 returns g c =
-    let hash = hash_of g.H.ChainHash g.H.TreeHash in
-    let code = code_of g.C.Code in
-    let m = making_of c.args.self.now in
-    let answer : Ok (m.grown + 1) ≡ grow_answer m = search rules in
-    let state : record { origin = m.origin; grown = m.grown + 1; nodes = c.add_leaf.new.nodes } ≡ grow_leaves hash code m = search rules in
+    let at = (goal.at.returns g c).After-add_leaf in
     record {
-      answer = answer;
-      state = state;
-      lived = grow-continues hash code m _ (Ok (m.grown + 1)) answer state;
+      answer = answers g at;
+      state = leaves g at;
+      lived = continues g at;
       wiped = c.drop-guard-2.ensures;
     }
+
+pub invariant_of-self-clause-lived : goal.invariant_of-self-clause-lived
+invariant_of-self-clause-lived g c =
+    let at = (goal.at.invariant_of-self-clause-lived g c).After-add_leaf in
+    lives-on (hash_of g.H.ChainHash g.H.TreeHash) (code_of g.C.Code) _ _ _ (continues g at) c.args.self.now.lived

@@ -1,4 +1,4 @@
-use Rattle.std.proofs.Common.{◌≡◌, ℕ, ◌*◌, ◌%◌, ◌^◌, ◌<◌, ◌≤◌, List, Ok, Err, Result, arith, rules, pow_mono}
+use Rattle.std.proofs.Common.{◌≡◌, ℕ, ◌+◌, ◌*◌, ◌%◌, ◌^◌, ◌<◌, ◌≤◌, List, Ok, Err, Result, refl, arith, rules, pow_mono}
 use Rattle.std.proofs.lemmas.Nat.{one_shl}
 use Rattle.strings.proofs.Laws.{str-from}
 use Rattle.tree.specs.Meaning.{Hash, Code, hash_of, code_of}
@@ -9,7 +9,8 @@ use Rattle.histories.specs.Rules.{release_record, Accepts, sign_answer, sign_sta
 use Rattle.histories.specs.States.{Signing}
 use Rattle.signer.specs.Views.{signing_of}
 use Rattle.histories.proofs.Accepting.{accepting}
-use Rattle.histories.proofs.Continuing.{sign-continues}
+use Rattle.histories.proofs.Continuing.{sign-continues, lives-on}
+use Rattle.signer.proofs.Ledgers.{entered-fresh}
 use Rattle.signer.proofs.Held.{signer-strings}
 use Rattle.signer.proofs.signer.Signer.sign.Given as given
 use Rattle.signer.proofs.signer.Signer.sign.Goals as goal
@@ -72,3 +73,15 @@ returns g c =
     let at = (goal.at.returns g c).Start in
     let all = leaves g at in
     ends g at (Ok (c.release_length-size.result, c.args.self.now.next)) _ _ (search rules) (search rules) (search rules) c.drop-guard-2.ensures
+
+pub invariant_of-self-clause-lived : goal.invariant_of-self-clause-lived
+invariant_of-self-clause-lived g c =
+    let at = (goal.at.invariant_of-self-clause-lived g c).Start in
+    let all = leaves g at in
+    let before = s g at in
+    let state : record { origin = before.origin; root = before.root; next = before.next + 1; rows = c.enter.new.self.rows } ≡ sign_state (code g at) before (stamp g at) (out g at) = search rules in
+    let str = str-from (stamp g at) c.told-stamp c.fits-stamp in
+    lives-on (hash g at) (code g at) _ _ _ (sign-continues (hash g at) (code g at) before _ (stamp g at) (out g at) _ _ str refl state refl) c.args.self.now.lived
+
+pub invariant_of-self-clause-fresh : goal.invariant_of-self-clause-fresh
+invariant_of-self-clause-fresh g c = entered-fresh c.args.self.now.ledger.rows c.enter.new.self.rows c.args.self.now.next c.args.stamp.now c.enter.ensures c.args.self.now.fresh

@@ -1,6 +1,6 @@
 use Rattle.std.proofs.Common.{◌≡◌, Ok, Err, rules}
 use Rattle.histories.specs.Rules.{skip_answer, skip_state}
-use Rattle.histories.proofs.Continuing.{skip-continues}
+use Rattle.histories.proofs.Continuing.{skip-continues, lives-on}
 use Rattle.tree.specs.Meaning.{hash_of, code_of}
 use Rattle.verifier.specs.declared.refusal.Refusal.TheVariants.{Skip}
 use Rattle.signer.specs.Views.{signing_of}
@@ -27,3 +27,12 @@ returns g c =
       state = state;
       lived = skip-continues (hash_of g.H.ChainHash g.H.TreeHash) (code_of g.C.Code) s _ c.args.leaf (Ok c.args.leaf) answer state;
     }
+
+pub invariant_of-self-clause-lived : goal.invariant_of-self-clause-lived
+invariant_of-self-clause-lived g c =
+    let hash = hash_of g.H.ChainHash g.H.TreeHash in
+    let code = code_of g.C.Code in
+    let s = signing_of c.args.self.now in
+    let answer : Ok c.args.leaf ≡ skip_answer s c.args.leaf = search rules in
+    let state : record { origin = s.origin; root = s.root; next = c.args.leaf; rows = s.rows } ≡ skip_state s c.args.leaf = search rules in
+    lives-on hash code _ _ _ (skip-continues hash code s _ c.args.leaf (Ok c.args.leaf) answer state) c.args.self.now.lived

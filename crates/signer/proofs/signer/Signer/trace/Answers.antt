@@ -1,6 +1,6 @@
 use Rattle.std.proofs.Common.{◌≡◌, ℕ, List, get_or, Err, Result, sym, ap, ◌∙◌, subst, Fits, w8}
 use Rattle.std.proofs.lemmas.Result.{err_from_is_err_and}
-use Rattle.histories.specs.Histories.{State, IsSigner, trace, Continues}
+use Rattle.histories.specs.Histories.{State, serving, IsSigner, trace, HasLived, Continues}
 use Rattle.histories.specs.Promise.{Promise, Promised}
 use Rattle.histories.specs.Rules.{trace_answer, trace_report, Finds}
 use Rattle.histories.specs.States.{Signing}
@@ -54,7 +54,7 @@ module _ (g : given.Over) (c : Start g) where
   reads = own-reads hash code s (signer-strings hash c.args.self.now laws.gives laws.joins) c.args.self.now.tall laws.level_range.1 c.args.self.now.sized.2 stamp bytes
 
   -- what is ensured of an answer and a report that are by the rule
-  ends : {W : Type 0} → ((i : ℕ) → Fits w8 (get_or bytes i 0)) → (r : Result (ℕ × ℕ × ℕ) Refusal) (after : List ℕ) → ByRule hash code s stamp bytes c.args.report.now r after → W → record { answer : r ≡ trace_answer hash code s stamp bytes; report : after ≡ trace_report hash code s stamp bytes c.args.report.now; finds : Finds hash code s stamp bytes r after; lived : (x : State) → IsSigner x s → Continues hash code x (trace stamp bytes c.args.report.now r after) x; promise : Promised hash code s stamp bytes r after; wiped : W }
+  ends : {W : Type 0} → ((i : ℕ) → Fits w8 (get_or bytes i 0)) → (r : Result (ℕ × ℕ × ℕ) Refusal) (after : List ℕ) → ByRule hash code s stamp bytes c.args.report.now r after → W → record { answer : r ≡ trace_answer hash code s stamp bytes; report : after ≡ trace_report hash code s stamp bytes c.args.report.now; finds : Finds hash code s stamp bytes r after; lived : (x : State) → IsSigner x s → Continues hash code x (trace stamp bytes c.args.report.now r after) x; promise : Promised hash code s stamp bytes r after; behind : HasLived hash code (serving s); wiped : W }
   ends small r after by wiped =
       record {
         answer = by.answers;
@@ -65,6 +65,7 @@ module _ (g : given.Over) (c : Start g) where
             subst (λ a. Promise hash code w s stamp bytes a after) (sym by.answers)
             (subst (Promise hash code w s stamp bytes (trace_answer hash code s stamp bytes)) (sym by.reports)
             (promised laws o w x s lived holds stamp bytes c.args.report.now (str-from stamp c.told-stamp c.fits-stamp) (bytes-from bytes small)));
+        behind = c.args.self.now.lived;
         wiped = wiped;
       }
 
