@@ -7,5 +7,6 @@ pub mod Once
 pub mod Opening
 pub mod Own
 pub mod Promised
+pub mod Refusing
 pub mod Sound
 pub mod Tracing

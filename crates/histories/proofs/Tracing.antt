@@ -18,6 +18,14 @@ use Rattle.verifier.proofs.Facts.{after-at, after-ok, passes, stops, ok_same}
 use Rattle.histories.specs.Rules.{own_key, traced_by, trace_answer, report_after, trace_report, Finds}
 use Rattle.histories.specs.States.{Signing}
 
+-- what a signer reads of a record of its own: the leaf number, and the strings that follow it
+pub own-shown : (count h : ℕ) (bytes : List ℕ) (shown : Shown) → own_rule count h bytes ≡ Ok shown → shown ≡ record { leaf = leaf_of bytes; row = row_of bytes }
+own-shown count h bytes shown is =
+    let head = after-ok (header_rule 2 bytes) _ is in
+    let long = passes (not (eqb (length bytes) (release_length count h))) Layout _ head.2 in
+    let below = passes (leb (2 ^ h) (leaf_of bytes)) Leaf _ long.1 in
+    ok_same (sym below.1)
+
 module _ (hash : Hash) (code : Code) (s : Signing) (stamp bytes report : List ℕ) where
   abbrev verified : Result ℕ Refusal
   verified = verify_rule hash code (own_key hash code s) stamp bytes
@@ -68,11 +76,7 @@ module _ (hash : Hash) (code : Code) (s : Signing) (stamp bytes report : List �
 
       -- the strings read are those that follow the leaf number
       pub row_read : shown.row ≡ row_of bytes
-      row_read =
-          let head = after-ok (header_rule 2 bytes) _ (sym is) in
-          let long = passes (not (eqb (length bytes) (release_length code.count s.origin.height))) Layout _ head.2 in
-          let below = passes (leb (2 ^ s.origin.height) (leaf_of bytes)) Leaf _ long.1 in
-          ap (λ x. x.row) (ok_same (sym below.1))
+      row_read = ap (λ x. x.row) (own-shown code.count s.origin.height bytes shown (sym is))
 
       pub led : bytes_eq root s.root ≡ true → (entered : Option (List ℕ)) (v : Verdict) (numbers : ℕ × ℕ × ℕ) (filled : List ℕ) → entered ≡ get_or s.rows shown.leaf None → v ≡ found hash code (record { origin = s.origin; entered = entered; stamp = stamp; leaf = shown.leaf; row = shown.row }) → numbers ≡ verdict_numbers shown.leaf v → filled ≡ verdict_report v → ByRule (Ok numbers) filled
       led same entered v numbers filled row finds n r =

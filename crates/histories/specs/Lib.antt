@@ -1,3 +1,4 @@
+pub mod Conditions
 pub mod Histories
 pub mod Promise
 pub mod Rules

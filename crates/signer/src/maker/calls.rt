@@ -2,10 +2,12 @@
 
 ghost use Rattle.std.specs.Prelude.{◌≡◌, ℕ, List, [], replicate, Some};
 ghost use Rattle.growth.specs.Grown.{node_at};
+ghost use Rattle.histories.specs.Conditions.{grow_causes};
 ghost use Rattle.histories.specs.Histories.{growing, serving, grow, finish, Lived, Continues};
 ghost use Rattle.histories.specs.Rules.{begin_rule, grow_answer, grow_leaves, held_rule, finish_rule};
 ghost use Rattle.signer.specs.Views.{height_of_plan, making_of, signing_of};
 ghost use Rattle.tree.specs.Meaning.{hash_of, code_of};
+ghost use Rattle.verifier.specs.Causes.{Refuses};
 
 use crate::ledger::Ledger;
 use crate::scratch::Scratch;
@@ -44,6 +46,7 @@ impl<H: TreeHash, C: Code> Maker<H, C> {
     /// Adds the next leaf, and answers how many are in. Refuses where all leaves are in.
     pub fn grow(&mut self, work: &mut [u8; 4096]) -> Result<u16, Refusal>
         ensures answer { result ≡ grow_answer (making_of self.old) }
+        ensures refuses { Refuses (grow_causes (making_of self.old)) result }
         ensures state { making_of self.new ≡ grow_leaves (hash_of H.ChainHash H.TreeHash.own)
             (code_of C.Code) (making_of self.old) }
         ensures lived { Continues (hash_of H.ChainHash H.TreeHash.own) (code_of C.Code)

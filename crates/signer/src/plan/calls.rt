@@ -1,8 +1,10 @@
 //! Planning a key.
 
 ghost use Rattle.std.specs.Prelude.{◌≡◌};
+ghost use Rattle.histories.specs.Conditions.{plan_causes};
 ghost use Rattle.histories.specs.Rules.{plan_rule};
 ghost use Rattle.signer.specs.Views.{height_of_plan};
+ghost use Rattle.verifier.specs.Causes.{Refuses};
 ghost use Rattle.verifier.specs.Rules.{seen};
 
 use crate::Plan;
@@ -11,7 +13,8 @@ use verifier::Refusal;
 impl Plan {
     /// The plan of a key of this height. Refuses a height outside 1 to 8.
     pub fn new(height: u8) -> Result<Plan, Refusal>
-        ensures { seen height_of_plan result ≡ plan_rule height }
+        ensures answer { seen height_of_plan result ≡ plan_rule height }
+        ensures refuses { Refuses (plan_causes height) result }
     {
         if !(1..=8).contains(&height) {
             return Err(Refusal::Plan);

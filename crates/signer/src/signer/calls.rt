@@ -1,10 +1,12 @@
 //! The calls of a key in service.
 
 ghost use Rattle.std.specs.Prelude.{◌≡◌, ◌^◌, ◌<◌, replicate};
+ghost use Rattle.histories.specs.Conditions.{sign_causes, skip_causes};
 ghost use Rattle.histories.specs.Histories.{serving, retired, sign, skip, retire, HasLived, Continues};
 ghost use Rattle.histories.specs.Rules.{Accepts, release_record, sign_answer, sign_state, sign_output, skip_answer, skip_state};
 ghost use Rattle.signer.specs.Views.{signing_of, signing_of_retired};
 ghost use Rattle.tree.specs.Meaning.{hash_of, code_of};
+ghost use Rattle.verifier.specs.Causes.{Refuses};
 
 use crate::records::write_release;
 use crate::scratch::Scratch;
@@ -24,6 +26,7 @@ impl<H: TreeHash, C: Code> Signer<H, C> {
         work: &mut [u8; 4096],
     ) -> Result<(usize, u16), Refusal>
         ensures answer { result ≡ sign_answer (code_of C.Code) (signing_of self.old) out.old }
+        ensures refuses { Refuses (sign_causes (code_of C.Code) (signing_of self.old) out.old) result }
         ensures state { signing_of self.new ≡ sign_state (code_of C.Code) (signing_of self.old)
             stamp.now out.old }
         ensures output { out.new ≡ sign_output (hash_of H.ChainHash H.TreeHash.own) (code_of C.Code)
@@ -61,6 +64,7 @@ impl<H: TreeHash, C: Code> Signer<H, C> {
     /// the number of leaves; then nothing changes.
     pub fn skip(&mut self, leaf: u16) -> Result<u16, Refusal>
         ensures answer { result ≡ skip_answer (signing_of self.old) leaf }
+        ensures refuses { Refuses (skip_causes (signing_of self.old) leaf) result }
         ensures state { signing_of self.new ≡ skip_state (signing_of self.old) leaf }
         ensures lived { Continues (hash_of H.ChainHash H.TreeHash.own) (code_of C.Code)
             (serving (signing_of self.old)) (skip leaf result) (serving (signing_of self.new)) }

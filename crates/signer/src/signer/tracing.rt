@@ -1,11 +1,13 @@
 //! Key records and traces, in service and out of it.
 
 ghost use Rattle.std.specs.Prelude.{◌≡◌, replicate, Ok};
+ghost use Rattle.histories.specs.Conditions.{key_causes, trace_causes};
 ghost use Rattle.histories.specs.Histories.{State, serving, IsSigner, key, trace, HasLived, Continues};
 ghost use Rattle.histories.specs.Promise.{Promised};
 ghost use Rattle.histories.specs.Rules.{key_record, own_key, key_answer, key_output, trace_answer, trace_report, Finds};
 ghost use Rattle.signer.specs.Views.{signing_of};
 ghost use Rattle.tree.specs.Meaning.{hash_of, code_of};
+ghost use Rattle.verifier.specs.Causes.{Refuses};
 ghost use Rattle.verifier.specs.Rules.{open_rule};
 
 use crate::Signer;
@@ -22,6 +24,7 @@ impl<H: TreeHash, C: Code> Signer<H, C> {
     /// Writes the key record at the start of the output, and answers its length. Refuses an output that is shorter; it stays.
     pub fn key(&self, out: &mut [u8]) -> Result<usize, Refusal>
         ensures answer { result ≡ key_answer (code_of C.Code) (signing_of self.now) out.old }
+        ensures refuses { Refuses (key_causes (code_of C.Code) (signing_of self.now) out.old) result }
         ensures output { out.new ≡ key_output (hash_of H.ChainHash H.TreeHash.own) (code_of C.Code)
             (signing_of self.now) out.old }
         ensures opens { open_rule H.ChainHash.NUMBER C.Code.NUMBER C.Code.LEVELS
@@ -60,6 +63,8 @@ impl<H: TreeHash, C: Code> Signer<H, C> {
     ) -> Result<(u8, u16, u16), Refusal>
         ensures answer { result ≡ trace_answer (hash_of H.ChainHash H.TreeHash.own) (code_of C.Code)
             (signing_of self.now) stamp.now bytes.now }
+        ensures refuses { Refuses (trace_causes (hash_of H.ChainHash H.TreeHash.own)
+            (code_of C.Code) (signing_of self.now) stamp.now bytes.now) result }
         ensures report { report.new ≡ trace_report (hash_of H.ChainHash H.TreeHash.own)
             (code_of C.Code) (signing_of self.now) stamp.now bytes.now report.old }
         ensures finds { Finds (hash_of H.ChainHash H.TreeHash.own) (code_of C.Code)

@@ -3,6 +3,7 @@ use Rattle.histories.specs.Histories.{growing, grow, Continues}
 use Rattle.histories.specs.Rules.{grow_answer, grow_leaves}
 use Rattle.histories.specs.States.{Making}
 use Rattle.histories.proofs.Continuing.{grow-continues, lives-on}
+use Rattle.histories.proofs.Refusing.{grow-refuses}
 use Rattle.tree.specs.Meaning.{hash_of, code_of}
 use Rattle.verifier.specs.declared.refusal.Refusal.TheVariants.{Grown}
 use Rattle.signer.specs.Views.{making_of}
@@ -19,6 +20,7 @@ returns-then-self g c =
     let state : m ≡ grow_leaves hash code m = search rules in
     record {
       answer = answer;
+      refuses = grow-refuses m (Err Grown) answer;
       state = state;
       lived = grow-continues hash code m m (Err Grown) answer state;
       wiped = c.drop-guard.ensures;
@@ -45,6 +47,7 @@ returns g c =
     let at = (goal.at.returns g c).After-add_leaf in
     record {
       answer = answers g at;
+      refuses = grow-refuses (before g at) (Ok ((before g at).grown + 1)) (answers g at);
       state = leaves g at;
       lived = continues g at;
       wiped = c.drop-guard-2.ensures;

@@ -4,11 +4,14 @@ use Rattle.tree.specs.Meaning.{Hash, Code, hash_of, code_of}
 use Rattle.verifier.specs.declared.refusal.Refusal.{Refusal}
 use Rattle.verifier.specs.declared.refusal.Refusal.TheVariants.{Output}
 use Rattle.verifier.specs.Rules.{open_rule}
+use Rattle.verifier.specs.Causes.{Refuses}
+use Rattle.histories.specs.Conditions.{key_causes}
 use Rattle.histories.specs.Histories.{State, IsSigner, key, Continues}
 use Rattle.histories.specs.Rules.{key_size, key_record, own_key, key_answer, key_output}
 use Rattle.histories.specs.States.{Signing}
 use Rattle.signer.specs.Views.{signing_of}
 use Rattle.histories.proofs.Continuing.{key-continues}
+use Rattle.histories.proofs.Refusing.{key-refuses}
 use Rattle.histories.proofs.Opening.{record-opens}
 use Rattle.signer.proofs.signer.Signer.key.Given as given
 use Rattle.signer.proofs.signer.Signer.key.Goals as goal
@@ -28,11 +31,12 @@ module _ (g : given.Over) (c : Start g) where
   out = c.args.out.now
 
   -- what is ensured of an answer and an output that are by the rules
-  ends : (r : Result ℕ Refusal) (after : List ℕ) → r ≡ key_answer code s out → after ≡ key_output hash code s out → record { answer : r ≡ key_answer code s out; output : after ≡ key_output hash code s out; opens : open_rule hash.number code.number code.levels (key_record hash code s) ≡ Ok (own_key hash code s); lived : (x : State) → IsSigner x s → Continues hash code x (key out r after) x }
+  ends : (r : Result ℕ Refusal) (after : List ℕ) → r ≡ key_answer code s out → after ≡ key_output hash code s out → record { answer : r ≡ key_answer code s out; refuses : Refuses (key_causes code s out) r; output : after ≡ key_output hash code s out; opens : open_rule hash.number code.number code.levels (key_record hash code s) ≡ Ok (own_key hash code s); lived : (x : State) → IsSigner x s → Continues hash code x (key out r after) x }
   ends r after answer output =
       let self = c.args.self.now in
       record {
         answer = answer;
+        refuses = key-refuses code s out r answer;
         output = output;
         opens = record-opens hash code s self.tall g.met.C.Code.level_range.1 self.sized.0 self.sized.1 self.sized.2;
         lived = λ x holds. key-continues hash code x s holds out after r answer output;

@@ -4,12 +4,15 @@ use Rattle.strings.proofs.Laws.{str-from}
 use Rattle.tree.specs.Meaning.{Hash, Code, hash_of, code_of}
 use Rattle.verifier.specs.declared.refusal.Refusal.{Refusal}
 use Rattle.verifier.specs.declared.refusal.Refusal.TheVariants.{Spent, Output}
+use Rattle.verifier.specs.Causes.{Refuses}
+use Rattle.histories.specs.Conditions.{sign_causes}
 use Rattle.histories.specs.Histories.{serving, sign, Continues}
 use Rattle.histories.specs.Rules.{release_record, Accepts, sign_answer, sign_state, sign_output}
 use Rattle.histories.specs.States.{Signing}
 use Rattle.signer.specs.Views.{signing_of}
 use Rattle.histories.proofs.Accepting.{accepting}
 use Rattle.histories.proofs.Continuing.{sign-continues, lives-on}
+use Rattle.histories.proofs.Refusing.{sign-refuses}
 use Rattle.signer.proofs.Ledgers.{entered-fresh}
 use Rattle.signer.proofs.Held.{signer-strings}
 use Rattle.signer.proofs.signer.Signer.sign.Given as given
@@ -37,7 +40,7 @@ module _ (g : given.Over) (c : Start g) where
   leaves = let tall = c.args.self.now.tall in one_shl s.origin.height 16 (omega arith)
 
   -- what is ensured of an answer, a signer and an output that are by the rules
-  ends : {W : Type 0} (r : Result (ℕ × ℕ) Refusal) (s' : Signing) (after : List ℕ) → r ≡ sign_answer code s out → s' ≡ sign_state code s stamp out → after ≡ sign_output hash code s stamp out → W → record { answer : r ≡ sign_answer code s out; state : s' ≡ sign_state code s stamp out; output : after ≡ sign_output hash code s stamp out; accepts : s.next < 2 ^ s.origin.height → Accepts hash code s stamp (release_record hash code s stamp) s.next; lived : Continues hash code (serving s) (sign stamp out r after) (serving s'); wiped : W }
+  ends : {W : Type 0} (r : Result (ℕ × ℕ) Refusal) (s' : Signing) (after : List ℕ) → r ≡ sign_answer code s out → s' ≡ sign_state code s stamp out → after ≡ sign_output hash code s stamp out → W → record { answer : r ≡ sign_answer code s out; refuses : Refuses (sign_causes code s out) r; state : s' ≡ sign_state code s stamp out; output : after ≡ sign_output hash code s stamp out; accepts : s.next < 2 ^ s.origin.height → Accepts hash code s stamp (release_record hash code s stamp) s.next; lived : Continues hash code (serving s) (sign stamp out r after) (serving s'); wiped : W }
   unfolding release_record
   ends r s' after answer state output wiped =
       let self = c.args.self.now in
@@ -48,6 +51,7 @@ module _ (g : given.Over) (c : Start g) where
       let strings = signer-strings hash self g.met.H.ChainHash.gives g.met.H.TreeHash.joins in
       record {
         answer = answer;
+        refuses = sign-refuses code s out r answer;
         state = state;
         output = output;
         accepts = accepting hash code s strings self.tall few self.sized.2 s.next stamp many low self.rooted;

@@ -1,6 +1,7 @@
 use Rattle.std.proofs.Common.{◌≡◌, Ok, Err, rules}
 use Rattle.histories.specs.Rules.{skip_answer, skip_state}
 use Rattle.histories.proofs.Continuing.{skip-continues, lives-on}
+use Rattle.histories.proofs.Refusing.{skip-refuses}
 use Rattle.tree.specs.Meaning.{hash_of, code_of}
 use Rattle.verifier.specs.declared.refusal.Refusal.TheVariants.{Skip}
 use Rattle.signer.specs.Views.{signing_of}
@@ -13,6 +14,7 @@ returns-then-leaf-self g c =
     let state : s ≡ skip_state s c.args.leaf = search rules in
     record {
       answer = answer;
+      refuses = skip-refuses s c.args.leaf (Err Skip) answer;
       state = state;
       lived = skip-continues (hash_of g.H.ChainHash g.H.TreeHash) (code_of g.C.Code) s s c.args.leaf (Err Skip) answer state;
     }
@@ -24,6 +26,7 @@ returns g c =
     let state : record { origin = s.origin; root = s.root; next = c.args.leaf; rows = s.rows } ≡ skip_state s c.args.leaf = search rules in
     record {
       answer = answer;
+      refuses = skip-refuses s c.args.leaf (Ok c.args.leaf) answer;
       state = state;
       lived = skip-continues (hash_of g.H.ChainHash g.H.TreeHash) (code_of g.C.Code) s _ c.args.leaf (Ok c.args.leaf) answer state;
     }

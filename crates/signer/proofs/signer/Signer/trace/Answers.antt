@@ -1,5 +1,7 @@
 use Rattle.std.proofs.Common.{◌≡◌, ℕ, List, get_or, Err, Result, sym, ap, ◌∙◌, subst, Fits, w8}
 use Rattle.std.proofs.lemmas.Result.{err_from_is_err_and}
+use Rattle.verifier.specs.Causes.{Refuses}
+use Rattle.histories.specs.Conditions.{trace_causes}
 use Rattle.histories.specs.Histories.{State, serving, IsSigner, trace, HasLived, Continues}
 use Rattle.histories.specs.Promise.{Promise, Promised}
 use Rattle.histories.specs.Rules.{trace_answer, trace_report, Finds}
@@ -7,6 +9,7 @@ use Rattle.histories.specs.States.{Signing}
 use Rattle.histories.proofs.Continuing.{trace-continues}
 use Rattle.histories.proofs.Laws.{Laws}
 use Rattle.histories.proofs.Own.{own-reads}
+use Rattle.histories.proofs.Refusing.{trace-refuses}
 use Rattle.histories.proofs.Promised.{promised}
 use Rattle.histories.proofs.Tracing.{ByRule, ReadsOwn, unread, misled, led}
 use Rattle.strings.proofs.Laws.{str-from}
@@ -54,10 +57,11 @@ module _ (g : given.Over) (c : Start g) where
   reads = own-reads hash code s (signer-strings hash c.args.self.now laws.gives laws.joins) c.args.self.now.tall laws.level_range.1 c.args.self.now.sized.2 stamp bytes
 
   -- what is ensured of an answer and a report that are by the rule
-  ends : {W : Type 0} → ((i : ℕ) → Fits w8 (get_or bytes i 0)) → (r : Result (ℕ × ℕ × ℕ) Refusal) (after : List ℕ) → ByRule hash code s stamp bytes c.args.report.now r after → W → record { answer : r ≡ trace_answer hash code s stamp bytes; report : after ≡ trace_report hash code s stamp bytes c.args.report.now; finds : Finds hash code s stamp bytes r after; lived : (x : State) → IsSigner x s → Continues hash code x (trace stamp bytes c.args.report.now r after) x; promise : Promised hash code s stamp bytes r after; behind : HasLived hash code (serving s); wiped : W }
+  ends : {W : Type 0} → ((i : ℕ) → Fits w8 (get_or bytes i 0)) → (r : Result (ℕ × ℕ × ℕ) Refusal) (after : List ℕ) → ByRule hash code s stamp bytes c.args.report.now r after → W → record { answer : r ≡ trace_answer hash code s stamp bytes; refuses : Refuses (trace_causes hash code s stamp bytes) r; report : after ≡ trace_report hash code s stamp bytes c.args.report.now; finds : Finds hash code s stamp bytes r after; lived : (x : State) → IsSigner x s → Continues hash code x (trace stamp bytes c.args.report.now r after) x; promise : Promised hash code s stamp bytes r after; behind : HasLived hash code (serving s); wiped : W }
   ends small r after by wiped =
       record {
         answer = by.answers;
+        refuses = trace-refuses hash code s stamp bytes c.args.report.now r reads by.answers;
         report = by.reports;
         finds = by.finds;
         lived = λ x holds. trace-continues hash code x s holds stamp bytes c.args.report.now after r by.answers by.reports;
