@@ -46,13 +46,12 @@ fn depth(side: Side, life: Life, case: &Case) -> usize {
 }
 
 // The types by their numbers, from 1 on.
-const TYPES: [&str; 8] = [
+const TYPES: [&str; 7] = [
     "a maker",
     "a signer",
     "a retired signer",
     "an opened key",
     "a plan",
-    "a ledger",
     "an origin",
     "a release that was read",
 ];
