@@ -1,6 +1,6 @@
 // Compares the calls on whole keys with plain Rust: valid inputs and damaged ones.
 use crate::lives::{self, by_numbers};
-use crate::ours::{self, Reply, Source};
+use crate::ours::{self, Reply, Source, UNKNOWN_SCHEME};
 use crate::plain::{String16, xor};
 use crate::random::Random;
 use crate::scheme::*;
@@ -10,6 +10,7 @@ use std::process::exit;
 #[derive(Default)]
 struct Tally {
     count: usize,
+    unknown: usize,
     refused: [usize; 13],
     verdicts: [usize; 4],
 }
@@ -26,7 +27,11 @@ impl Tally {
             exit(1);
         }
         self.count += 1;
-        self.refused[usize::from(ours.0.refusal)] += 1;
+        if ours.0 == UNKNOWN_SCHEME {
+            self.unknown += 1;
+        } else {
+            self.refused[usize::from(ours.0.refusal)] += 1;
+        }
         ours.0
     }
 
@@ -79,6 +84,21 @@ impl Tally {
         let reply = self.same("trace", (ours, reports[0]), (plain, reports[1]));
         if reply.refusal == 0 {
             self.verdicts[reply.first] += 1;
+        }
+    }
+
+    // Numbers of which no hash or no code has one: every call says just that, and writes nothing.
+    #[rustfmt::skip]
+    fn unknown(&mut self, hash: u8, code: u8, source: &Source, key: &[u8], stamp: &String16, record: &[u8]) {
+        let before = self.unknown;
+        self.verify(hash, code, key, stamp, record);
+        self.grow(hash, code, source, 1, 0);
+        self.key(hash, code, source, 1000);
+        self.sign(hash, code, source, 0, stamp, 4232);
+        self.trace(hash, code, source, 0, stamp, stamp, record);
+        if self.unknown != before + 5 {
+            println!("hash {hash}, code {code}: not answered as unknown");
+            exit(1);
         }
     }
 }
@@ -161,8 +181,9 @@ fn compare_key<H: Hash, C: Code>(random: &mut Random, tally: &mut Tally, height:
     tally.verify(hash, code, &key, &other, &record);
     tally.verify(hash % 3 + 1, code, &key, &stamp, &record);
     tally.verify(hash, code % 3 + 1, &key, &stamp, &record);
-    tally.verify(hash, 4, &key, &stamp, &record);
-    tally.verify(0, code, &key, &stamp, &record);
+    for (hash, code) in [(0, code), (4, code), (hash, 0), (hash, 4)] {
+        tally.unknown(hash, code, &source, &key, &stamp, &record);
+    }
     for n in 0..40 {
         let bytes = if hash == 3 && n % 2 == 0 {
             twin(random, &source, C::LEVELS, &record)
@@ -221,5 +242,6 @@ pub fn compare() {
             .join(",")
     };
     println!("  refusals by number (0: none):{}", of(&tally.refused));
+    println!("  hash or code not known: {}", tally.unknown);
     println!("  verdicts of trace:{}", of(&tally.verdicts));
 }

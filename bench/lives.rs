@@ -1,15 +1,32 @@
 // The calls of crates/bench_calls again, over the plain scheme.
-use crate::ours::{Reply, Source};
+use crate::ours::{NOTHING, Reply, Source, UNKNOWN_SCHEME};
 use crate::plain::String16;
 use crate::scheme::*;
 
-fn reply(answer: Result<(usize, u16, u16), u8>) -> Reply {
-    let (first, second, third) = answer.unwrap_or_default();
-    Reply {
-        first,
-        second,
-        third,
-        refusal: answer.err().unwrap_or(0),
+// A refusal by its number, or a hash or code that is not known.
+pub enum Failure {
+    Refused(u8),
+    UnknownScheme,
+}
+
+impl From<u8> for Failure {
+    fn from(refusal: u8) -> Failure {
+        Failure::Refused(refusal)
+    }
+}
+
+type Numbers = Result<(usize, u16, u16), Failure>;
+
+fn reply(answer: Numbers) -> Reply {
+    match answer {
+        Ok((first, second, third)) => Reply {
+            first,
+            second,
+            third,
+            ..NOTHING
+        },
+        Err(Failure::Refused(refusal)) => Reply { refusal, ..NOTHING },
+        Err(Failure::UnknownScheme) => UNKNOWN_SCHEME,
     }
 }
 
@@ -32,8 +49,6 @@ macro_rules! by_numbers {
 }
 
 pub(crate) use by_numbers;
-
-type Numbers = Result<(usize, u16, u16), u8>;
 
 const CLEAR: Row = [[0; 16]; 256];
 
@@ -111,7 +126,7 @@ pub fn verify(hash: u8, code: u8, key: &[u8], stamp: &String16, record: &[u8]) -
     reply(by_numbers!(
         hash,
         code,
-        Err(8),
+        Err(Failure::UnknownScheme),
         verify_with(key, stamp, record)
     ))
 }
@@ -119,7 +134,7 @@ pub fn verify(hash: u8, code: u8, key: &[u8], stamp: &String16, record: &[u8]) -
 #[rustfmt::skip]
 #[inline(never)]
 pub fn grow(hash: u8, code: u8, source: &Source, leaves: u16, level: u8, node: &mut String16) -> Reply {
-    reply(by_numbers!(hash, code, Err(8), grow_with(source, leaves, level, node)))
+    reply(by_numbers!(hash, code, Err(Failure::UnknownScheme), grow_with(source, leaves, level, node)))
 }
 
 #[inline(never)]
@@ -127,7 +142,7 @@ pub fn key(hash: u8, code: u8, source: &Source, turns: u32, out: &mut [u8]) -> R
     reply(by_numbers!(
         hash,
         code,
-        Err(8),
+        Err(Failure::UnknownScheme),
         key_with(source, turns, out)
     ))
 }
@@ -135,11 +150,11 @@ pub fn key(hash: u8, code: u8, source: &Source, turns: u32, out: &mut [u8]) -> R
 #[rustfmt::skip]
 #[inline(never)]
 pub fn sign(hash: u8, code: u8, source: &Source, leaf: u16, stamp: &String16, out: &mut [u8]) -> Reply {
-    reply(by_numbers!(hash, code, Err(8), sign_with(source, leaf, stamp, out)))
+    reply(by_numbers!(hash, code, Err(Failure::UnknownScheme), sign_with(source, leaf, stamp, out)))
 }
 
 #[rustfmt::skip]
 #[inline(never)]
 pub fn trace(hash: u8, code: u8, source: &Source, leaf: u16, spent: &String16, stamp: &String16, record: &[u8], report: &mut [u8; 64]) -> Reply {
-    reply(by_numbers!(hash, code, Err(8), trace_with(source, leaf, spent, stamp, record, report)))
+    reply(by_numbers!(hash, code, Err(Failure::UnknownScheme), trace_with(source, leaf, spent, stamp, record, report)))
 }

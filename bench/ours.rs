@@ -17,7 +17,22 @@ pub struct Reply {
     pub second: u16,
     pub third: u16,
     pub refusal: u8,
+    pub unknown_scheme: bool,
 }
+
+pub const NOTHING: Reply = Reply {
+    first: 0,
+    second: 0,
+    third: 0,
+    refusal: 0,
+    unknown_scheme: false,
+};
+
+// What an unknown hash or code number gives.
+pub const UNKNOWN_SCHEME: Reply = Reply {
+    unknown_scheme: true,
+    ..NOTHING
+};
 
 #[rustfmt::skip]
 unsafe extern "C" {

@@ -1,6 +1,6 @@
 -- What the calls on whole keys answer and leave: each lives a key's life from its source on, by the rules of verifier and signer.
 -- Assumes nothing.
-use Rattle.std.specs.Prelude.{ℕ, zero, suc, List, replicate, Some, None, Ok, Err, Option, Result}
+use Rattle.std.specs.Prelude.{ℕ, false, true, zero, suc, List, replicate, Some, None, Ok, Err, Option, Result}
 use Rattle.growth.specs.declared.origin.Origin.{Origin}
 use Rattle.histories.specs.Rules.{plan_rule, begin_rule, grow_leaves, held_rule, finish_rule, key_answer, key_output, sign_answer, sign_state, sign_output, skip_state, trace_answer, trace_report}
 use Rattle.histories.specs.States.{Making, Signing}
@@ -11,44 +11,67 @@ use Rattle.verifier.specs.Rules.{after, open_rule, verify_rule}
 use Rattle.verifier.specs.declared.refusal.Refusal.{Refusal}
 use Rattle.schemes.specs.Names.{hash_named, code_named, scheme_numbered}
 use Rattle.schemes.specs.declared.scheme.Scheme.{Scheme}
+use Rattle.schemes.specs.declared.unknown.UnknownScheme.{UnknownScheme}
+use Rattle.bench_calls.specs.declared.failure.Failure.{Failure}
+use Rattle.bench_calls.specs.declared.failure.Failure.TheVariants.{Refused, Unknown}
 use Rattle.bench_calls.specs.declared.reply.Reply.{Reply}
 use Rattle.bench_calls.specs.declared.source.Source.{Source}
 
--- a refusal's number and zeros; or 0 and the numbers of an answer
-abbrev pub refused_reply : Refusal → Reply
-refused_reply e = record { first = 0; second = 0; third = 0; refusal = refusal_number e }
+-- no numbers, no refusal, and hash and code are known
+abbrev pub nothing : Reply
+nothing = record { first = 0; second = 0; third = 0; refusal = 0; unknown_scheme = false }
 
-abbrev pub reply_of : {A : Type 0} → (A → ℕ × ℕ × ℕ) → Result A Refusal → Reply
-reply_of numbers (Ok x) = record { first = (numbers x).0; second = (numbers x).1; third = (numbers x).2; refusal = 0 }
-reply_of numbers (Err e) = refused_reply e
+-- the numbers of an answer; or a refusal's number alone; or alone that a hash or code is not known
+abbrev pub reply_of : {A : Type 0} → (A → ℕ × ℕ × ℕ) → Result A Failure → Reply
+reply_of numbers (Ok x) =
+    record nothing { first = (numbers x).0; second = (numbers x).1; third = (numbers x).2 }
+reply_of numbers (Err (Refused e)) = record nothing { refusal = refusal_number e }
+reply_of numbers (Err Unknown) = record nothing { unknown_scheme = true }
 
 -- replies with one, two and three numbers, zeros after them
-abbrev pub one_reply : Result ℕ Refusal → Reply
+abbrev pub one_reply : Result ℕ Failure → Reply
 one_reply = reply_of (λ n. (n, 0, 0))
 
-abbrev pub two_reply : Result (ℕ × ℕ) Refusal → Reply
+abbrev pub two_reply : Result (ℕ × ℕ) Failure → Reply
 two_reply = reply_of (λ x. (x.0, x.1, 0))
 
-abbrev pub three_reply : Result (ℕ × ℕ × ℕ) Refusal → Reply
+abbrev pub three_reply : Result (ℕ × ℕ × ℕ) Failure → Reply
 three_reply = reply_of (λ x. x)
 
--- what is left of a buffer: as it was, where there is a refusal
-abbrev pub left_by : {A : Type 0} → Result A Refusal → List ℕ → (A → List ℕ) → List ℕ
+-- what is left of a buffer: as it was, where there is an error
+abbrev pub left_by : {A E : Type 0} → Result A E → List ℕ → (A → List ℕ) → List ℕ
 left_by (Ok x) old new = new x
 left_by (Err e) old new = old
 
--- an answer by the hash and the code with these numbers, or the refusal of a number that is not known
-abbrev pub numbered : {A : Type 0} → ℕ → ℕ → (Hash → Code → Result A Refusal) → Result A Refusal
-numbered hash code by = after (scheme_numbered hash code) (λ s. by (hash_named s.hash) (code_named s.code))
+-- an answer of verifier or signer; its refusal is a failure
+abbrev pub answered : {A : Type 0} → Result A Refusal → Result A Failure
+answered (Ok x) = Ok x
+answered (Err e) = Err (Refused e)
+
+-- an answer by the hash and the code with these numbers, or that a number is not known
+abbrev pub by_scheme : {A : Type 0} →
+    Result Scheme UnknownScheme → (Hash → Code → Result A Refusal) → Result A Failure
+by_scheme (Ok s) by = answered (by (hash_named s.hash) (code_named s.code))
+by_scheme (Err e) by = Err Unknown
+
+abbrev pub numbered : {A : Type 0} →
+    ℕ → ℕ → (Hash → Code → Result A Refusal) → Result A Failure
+numbered hash code by = by_scheme (scheme_numbered hash code) by
 
 -- what is left of a buffer by them: as it was, where a number is not known
 abbrev pub numbered_output : ℕ → ℕ → List ℕ → (Hash → Code → List ℕ) → List ℕ
 numbered_output hash code old by = left_by (scheme_numbered hash code) old (λ s. by (hash_named s.hash) (code_named s.code))
 
--- what holds by them, or of the refusal
-abbrev pub Numbered : Result Scheme Refusal → (Refusal → Type 0) → (Hash → Code → Type 0) → Type 0
+-- what holds by them, or where a number is not known
+abbrev pub Numbered : Result Scheme UnknownScheme → Type 0 → (Hash → Code → Type 0) → Type 0
 Numbered (Ok s) none by = by (hash_named s.hash) (code_named s.code)
-Numbered (Err e) none by = none e
+Numbered (Err e) none by = none
+
+-- what holds of the answer that a result by them stands for
+abbrev pub HoldsOf : {A : Type 0} → (Result A Refusal → Type 0) → Result A Failure → Type 0
+HoldsOf holds (Ok x) = holds (Ok x)
+HoldsOf holds (Err (Refused e)) = holds (Err e)
+HoldsOf holds (Err Unknown) = ⊥
 
 -- what a source's tree is grown from
 abbrev pub origin_from : Source → ℕ → Origin

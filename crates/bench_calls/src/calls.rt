@@ -1,26 +1,28 @@
-//! The calls on whole keys. Hash and code go by their numbers, of which an unknown one is refused with 8. Nothing of a key stays
-//! between two calls: each lives a key's life from its source on.
+//! The calls on whole keys. Hash and code go by their numbers; where one is not known, the reply says so and no more. Nothing of
+//! a key stays between two calls: each lives a key's life from its source on.
 
 ghost use Rattle.std.specs.Prelude.{◌≡◌, Err};
-ghost use Rattle.bench_calls.specs.Lives.{Numbered, numbered, numbered_output, one_reply, two_reply, three_reply, verified, grown, grown_node, keyed, keyed_output, signed, signed_output, traced, traced_report};
+ghost use Rattle.bench_calls.specs.Lives.{Numbered, HoldsOf, numbered, numbered_output, one_reply, two_reply, three_reply, verified, grown, grown_node, keyed, keyed_output, signed, signed_output, traced, traced_report};
 ghost use Rattle.schemes.specs.Names.{scheme_numbered};
 
+use crate::failure::Failure;
 use crate::lives::{Grow, Key, Sign, Trace, Verify};
 use crate::reply::Reply;
 use crate::source::Source;
 use schemes::{Scheme, Task};
 use verifier::Refusal;
 
-// Does the work with the hash and the code that have these numbers. An unknown number is refused, and the task stays as it was.
+// Does the work with the hash and the code that have these numbers. Where a number is not known the task stays as it was.
 fn run_numbered<A, T: Task<Output = Result<A, Refusal>>>(
     hash: u8,
     code: u8,
     task: &mut T,
-) -> Result<A, Refusal>
-    ensures { Numbered (scheme_numbered hash code) (λ e. (result ≡ Err e) × (task.new ≡ task.old))
-        (λ h c. T.gives task.old h c result task.new) }
+) -> Result<A, Failure>
+    ensures { Numbered (scheme_numbered hash code)
+        ((result ≡ Err Failure.Unknown) × (task.new ≡ task.old))
+        (λ h c. HoldsOf (λ answer. T.gives task.old h c answer task.new) result) }
 {
-    Scheme::numbered(hash, code)?.run(task)
+    Ok(Scheme::numbered(hash, code)?.run(task)?)
 }
 
 /// Opens a key record, and verifies a release record under it: the leaf.

@@ -15,6 +15,7 @@ use strings::byte_at;
 use tree::chains::raise_chain;
 
 mod calls;
+mod failure;
 mod lives;
 mod reply;
 mod sizes;

@@ -2,9 +2,10 @@
 
 ghost use Rattle.std.specs.Prelude.{◌≡◌, ℕ};
 
-use verifier::Refusal;
+use crate::failure::Failure;
 
-/// The number of a refusal and zeros; or 0, and the numbers of an answer.
+/// The numbers of an answer; or the number of a refusal; or that no hash has the number that was given, or no code. All else is 0 and
+/// false then.
 #[repr(C)]
 #[derive(Clone, Copy)]
 pub struct Reply {
@@ -12,7 +13,17 @@ pub struct Reply {
     pub second: u16,
     pub third: u16,
     pub refusal: u8,
+    pub unknown_scheme: bool,
 }
+
+// No numbers and no failure.
+const NOTHING: Reply = Reply {
+    first: 0,
+    second: 0,
+    third: 0,
+    refusal: 0,
+    unknown_scheme: false,
+};
 
 /// An answer of up to three numbers.
 pub trait Numbers {
@@ -47,13 +58,13 @@ impl Numbers for (u8, u16, u16) {
     }
 }
 
-impl<A: Numbers> From<Result<A, Refusal>> for Reply {
+impl<A: Numbers> From<Result<A, Failure>> for Reply {
     ghost use Rattle.std.specs.Prelude.{◌≡◌};
     ghost use Rattle.bench_calls.specs.Lives.{reply_of};
 
     ghost from_gives = { λ answer reply. reply ≡ reply_of A.numbers answer };
 
-    fn from(answer: Result<A, Refusal>) -> Reply {
+    fn from(answer: Result<A, Failure>) -> Reply {
         match answer {
             Ok(numbers) => {
                 let (first, second, third) = numbers.numbers();
@@ -61,14 +72,16 @@ impl<A: Numbers> From<Result<A, Refusal>> for Reply {
                     first,
                     second,
                     third,
-                    refusal: 0,
+                    ..NOTHING
                 }
             }
-            Err(refusal) => Reply {
-                first: 0,
-                second: 0,
-                third: 0,
+            Err(Failure::Refused(refusal)) => Reply {
                 refusal: refusal.number(),
+                ..NOTHING
+            },
+            Err(Failure::Unknown) => Reply {
+                unknown_scheme: true,
+                ..NOTHING
             },
         }
     }
