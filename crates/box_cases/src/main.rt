@@ -2,10 +2,10 @@
 //! the others are edits of one of them, each for a refusal.
 #![tactic(auto)]
 
-use orders::check;
-use std::fs;
+use orders::{LIMIT, check};
+use std::fs::File;
 
-const CASES: [&str; 20] = [
+const CASES: [&str; 22] = [
     "box_1_1",
     "box_1_2",
     "box_1_3",
@@ -26,13 +26,16 @@ const CASES: [&str; 20] = [
     "key_refused_6_before_8",
     "orders_refused",
     "zero_key",
+    "cut_at_the_limit",
+    "many_orders",
 ];
 
 fn main(rt: HostRuntime) -> anyhow::Result<()> {
+    let mut room = [0; LIMIT];
     for case in CASES {
         let path = format!(in rt.alloc(); "{case}.in")?;
-        let input = fs::read(&rt, path.as_str())?;
-        let report = check(rt.alloc(), input.as_slice())?;
+        let mut input = File::open(&rt, path.as_str())?;
+        let report = check(&mut input, &mut room)?;
         println!(rt; "{case}")?;
         print!(rt; "{report}")?;
     }

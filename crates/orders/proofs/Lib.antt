@@ -1,1 +1,3 @@
-pub mod Orders
+pub mod Filled
+pub mod Listed
+pub mod Reported

@@ -1,2 +1,5 @@
+pub mod Openings
 pub mod Outcomes
 pub mod Reports
+pub mod Texts
+pub mod Views

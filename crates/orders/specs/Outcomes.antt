@@ -1,6 +1,6 @@
 -- Orders one after the other: a stamp and a release record each.
 -- Assumes nothing.
-use Rattle.std.specs.Prelude.{ℕ, ◌<◌, ◌≤◌, Bool, if◌then◌else◌, ◌&&◌, List, [], ◌∷◌, length, take, drop, Err, Result, nat_le}
+use Rattle.std.specs.Prelude.{ℕ, zero, suc, ◌<◌, ◌≤◌, Bool, if◌then◌else◌, ◌&&◌, List, [], ◌∷◌, length, take, drop, Err, Result, ◌==◌, nat_le, nat_lt}
 use Rattle.verifier.specs.Records.{field}
 use Rattle.verifier.specs.declared.refusal.Refusal.{Refusal}
 use Rattle.verifier.specs.declared.refusal.Refusal.TheVariants.{Length}
@@ -27,3 +27,15 @@ pub data Outcomes (verify : List ℕ → List ℕ → Result ℕ Refusal) : List
   short : {bytes : List ℕ} → 0 < length bytes → length bytes < 16 → Outcomes verify bytes (Err Length ∷ [])
   -- a stamp, its record, and the orders after it
   order : {bytes : List ℕ} {answers : List (Result ℕ Refusal)} → 16 ≤ length bytes → Outcomes verify (after_record (drop 16 bytes)) answers → Outcomes verify bytes (verify (take 16 bytes) (first_record (drop 16 bytes)) ∷ answers)
+
+-- the same as a list worked out, of `most` orders at most
+unfoldable pub first_answers : (List ℕ → List ℕ → Result ℕ Refusal) → ℕ → List ℕ → List (Result ℕ Refusal)
+first_answers verify zero bytes = []
+first_answers verify (suc most) bytes =
+    if length bytes == 0 then [] else
+    if nat_lt (length bytes) 16 then Err Length ∷ [] else
+    verify (take 16 bytes) (first_record (drop 16 bytes)) ∷ first_answers verify most (after_record (drop 16 bytes))
+
+-- the list that Outcomes relates to the bytes: an order has a byte at least
+abbrev pub answers_to : (List ℕ → List ℕ → Result ℕ Refusal) → List ℕ → List (Result ℕ Refusal)
+answers_to verify bytes = first_answers verify (length bytes) bytes

@@ -1,145 +1,99 @@
-//! From bytes to outcomes.
+//! From bytes to a report.
 
-ghost use Rattle.std.specs.Prelude.{◌≡◌, ℕ, ◌<◌, List, ◌∷◌, length, IfOk, Result, OnErr};
-ghost use Rattle.schemes.specs.Names.{scheme_numbered};
-ghost use Rattle.orders.specs.Outcomes.{Outcomes, after_record};
-ghost use Rattle.orders.specs.Reports.{Refused, Checked, CheckedBy, Unknown, Reports};
-ghost use Rattle.tree.specs.Meaning.{hash_of, code_of};
-ghost use Rattle.verifier.specs.Records.{hash_number_of, code_number_of};
-ghost use Rattle.verifier.specs.Rules.{header_rule, open_rule, verify_rule};
-ghost use Rattle.verifier.specs.Views.{key_of};
-ghost use Rattle.verifier.specs.declared.refusal.Refusal.{Refusal};
+ghost use Rattle.std.specs.Prelude.{◌≡◌, ◌≢◌, ℕ, ◌<◌, List, length, take, drop, IfOk, IfErr, IfSome, OnOk, OnErr, Some};
+ghost use Rattle.std.specs.Io.KnownBytes.{Consumes};
+ghost use Rattle.std.specs.IoError.{error_kind};
+ghost use Rattle.orders.specs.Reports.{Reported, CheckedBy, Unknown, Reports, most_read};
+ghost use Rattle.orders.specs.Views.{reported};
+ghost use Rattle.verifier.specs.Rules.{header_rule};
 
+use crate::reading::fill;
 use crate::records::split_record;
-use crate::{KeySummary, Report};
+use crate::{KeySummary, LIMIT, Report, Tour};
 use codes::Code;
 use hashes::TreeHash;
 use schemes::{Scheme, Task};
-use std::alloc::{AllocError, Global};
+use std::io::{self, ErrorKind, Read};
 use strings::byte_at;
-use verifier::{OpenedKey, RecordKind, Refusal, body_of, layout, open, verify};
+use verifier::{OpenedKey, RecordKind, Refusal, body_of, layout, open};
 
-// The outcome of the first order in `bytes`, and the bytes of the others.
-fn check_order<'a, H: TreeHash, C: Code>(
-    key: &OpenedKey<'_>,
-    bytes: &'a [u8],
-) -> (Result<u16, Refusal>, &'a [u8])
-    requires { 0 < length bytes.now }
-    ensures first { (answers : List (Result ℕ Refusal)) →
-        Outcomes
-        (verify_rule (hash_of H.ChainHash H.TreeHash.own) (code_of C.Code) (key_of key.now))
-        result.1.now answers →
-        Outcomes
-        (verify_rule (hash_of H.ChainHash H.TreeHash.own) (code_of C.Code) (key_of key.now))
-        bytes.now (result.0 ∷ answers) }
-    ensures fewer { length result.1.now < length bytes.now }
-{
-    let Some((stamp, rest)) = bytes.split_first_chunk::<16>() else {
-        return (Err(Refusal::Length), &[]);
-    };
-    let (record, others) = split_record(rest);
-    (verify::<H, C>(key, stamp, record), others)
-}
-
-// The outcome of each order in `bytes`.
-fn check_orders<H: TreeHash, C: Code>(
-    heap: Global,
-    key: &OpenedKey<'_>,
-    bytes: &[u8],
-) -> Result<Vec<Result<u16, Refusal>>, AllocError>
-    ensures answers { IfOk result (λ v. Outcomes
-        (verify_rule (hash_of H.ChainHash H.TreeHash.own) (code_of C.Code) (key_of key.now))
-        bytes.now v.items) }
-    ensures lacking { OnErr result (0 < length bytes.now) }
-    ensures only { IfOk result (λ v. (others : List (Result ℕ Refusal)) → Outcomes
-        (verify_rule (hash_of H.ChainHash H.TreeHash.own) (code_of C.Code) (key_of key.now))
-        bytes.now others → others ≡ v.items) }
-{
-    let mut outcomes = Vec::new(heap);
-    let mut rest = bytes;
-    while !rest.is_empty() {
-        let (outcome, others) = check_order::<H, C>(key, rest);
-        outcomes.push(outcome)?;
-        rest = others;
-    }
-    Ok(outcomes)
-}
-
-// The report where the key is refused.
-fn refused_key(heap: Global, refusal: Refusal) -> Report
-    ensures { Refused refusal result }
-{
-    Report {
-        key: Err(refusal),
-        orders: Vec::new(heap),
-    }
-}
-
-// Checks a key record and orders by the verifier with any hash and code.
+// Opens a key record with any hash and code.
 #[derive(Drop)]
-struct Checking<'a> {
-    heap: Global,
+struct Opening<'a> {
     key: &'a [u8],
-    orders: &'a [u8],
 }
 
-impl Task for Checking<'_> {
-    type Output = Result<Report, AllocError>;
+impl<'a> Task for Opening<'a> {
+    ghost use Rattle.verifier.specs.Rules.{open_rule};
+    ghost use Rattle.orders.specs.Openings.{Opens};
+
+    type Output = Result<(OpenedKey<'a>, KeySummary), Refusal>;
 
     ghost gives = { λ before h c result after.
-        IfOk result
-        (λ report. Checked h c (open_rule h.number c.number c.levels before.key.now) before.orders.now report)
-        × OnErr result (0 < length before.orders.now) };
+        Opens h c (open_rule h.number c.number c.levels before.key.now) result };
 
-    fn run<H: TreeHash, C: Code>(&mut self) -> Result<Report, AllocError> {
-        match open::<H, C>(self.key) {
-            Ok(opened) => {
-                let outcomes = check_orders::<H, C>(self.heap, &opened, self.orders)?;
-                let summary = KeySummary {
-                    hash: H::NUMBER,
-                    code: C::NUMBER,
-                    height: opened.height(),
-                };
-                Ok(Report {
-                    key: Ok(summary),
-                    orders: outcomes,
-                })
-            }
-            Err(refusal) => Ok(refused_key(self.heap, refusal)),
-        }
+    fn run<H: TreeHash, C: Code>(&mut self) -> Result<(OpenedKey<'a>, KeySummary), Refusal> {
+        let key = open::<H, C>(self.key)?;
+        let summary = KeySummary {
+            hash: H::NUMBER,
+            code: C::NUMBER,
+            height: key.height(),
+        };
+        Ok((key, summary))
+    }
+}
+
+// The report by a hash and a code.
+fn check_by<'a>(scheme: Scheme, key: &'a [u8], orders: &'a [u8]) -> Report<'a>
+    ensures { CheckedBy (Ok scheme) key.now orders.now (reported result) }
+{
+    match scheme.run(&mut Opening { key }) {
+        Ok((key, summary)) => Report::Opened(Tour {
+            scheme,
+            key,
+            summary,
+            orders,
+        }),
+        Err(refusal) => Report::Refused(refusal),
     }
 }
 
 // The report of a key record that names a hash or code that is not known.
-fn unknown(heap: Global, key: &[u8]) -> Report
-    ensures { Unknown (header_rule 1 key.now) result }
+fn unknown(key: &[u8]) -> Report<'_>
+    ensures { Unknown (header_rule 1 key.now) (reported result) }
 {
     match body_of(key, RecordKind::Key) {
-        Ok(_) => refused_key(heap, Refusal::Parameters),
-        Err(refusal) => refused_key(heap, refusal),
+        Ok(_) => Report::Refused(Refusal::Parameters),
+        Err(before) => Report::Refused(before),
     }
 }
 
-// The report by the hash and the code that the key record names.
-fn check_named(heap: Global, key: &[u8], orders: &[u8]) -> Result<Report, AllocError>
-    ensures report { IfOk result (λ report. CheckedBy
-        (scheme_numbered (hash_number_of key.now) (code_number_of key.now)) key.now orders.now
-        report) }
-    ensures lacking { OnErr result (0 < length orders.now) }
+// The report of a key record and the orders that follow it, by the hash and code that the key record names.
+fn check_bytes(input: &[u8]) -> Report<'_>
+    ensures report { Reports input.now (reported result) }
+    ensures only { (other : Reported) → Reports input.now other → other ≡ reported result }
 {
+    let (key, orders) = split_record(input);
     let hash = byte_at(key, layout::HASH_NUMBER);
     let code = byte_at(key, layout::CODE_NUMBER);
     match Scheme::numbered(hash, code) {
-        Ok(scheme) => scheme.run(&mut Checking { heap, key, orders }),
-        Err(_) => Ok(unknown(heap, key)),
+        Ok(scheme) => check_by(scheme, key, orders),
+        Err(_) => unknown(key),
     }
 }
 
-/// Checks a key record and the orders that follow it, by the hash and code that the key record names.
-pub fn check(heap: Global, input: &[u8]) -> Result<Report, AllocError>
-    ensures report { IfOk result (λ report. Reports input.now report) }
-    ensures lacking { OnErr result (0 < length (after_record input.now)) }
+/// Reads a key record and the orders that follow it from `input` into `room`, up to the input's end or 65,536 bytes; the rest
+/// is left unread. Checks them by the hash and code that the key record names. An error is one of reading, before 65,536 bytes
+/// were read; a read that was interrupted is tried again.
+pub fn check<'a, R: Read>(input: &mut R, room: &'a mut [u8; LIMIT]) -> io::Result<Report<'a>>
+    ensures report { IfOk result (λ report. IfSome (R.remaining input.old)
+        (λ bytes. Reports (take most_read bytes) (reported report))) }
+    ensures unread { OnOk result (IfSome (R.remaining input.old)
+        (λ bytes. R.remaining input.new ≡ Some (drop most_read bytes))) }
+    ensures failed { OnErr result ((bs : List ℕ) × (length bs < most_read)
+        × Consumes (R.remaining input.old) (R.remaining input.new) bs) }
+    ensures retried { IfErr result (λ e. error_kind e ≢ ErrorKind.Interrupted) }
 {
-    let (key, orders) = split_record(input);
-    check_named(heap, key, orders)
+    let filled = fill(input, room.as_mut_slice())?;
+    Ok(check_bytes(&room[..filled]))
 }

@@ -2,8 +2,16 @@
 #![tactic(auto)]
 
 mod checking;
+mod key;
+mod order;
+mod reading;
 mod records;
 mod report;
+mod tour;
 
 pub use checking::check;
-pub use report::{KeySummary, Report};
+pub use key::KeySummary;
+pub use order::Order;
+pub use reading::LIMIT;
+pub use report::Report;
+pub use tour::{Orders, Tour};

@@ -1,36 +1,44 @@
 //! What is reported of a key record and its orders.
 
+ghost use Rattle.std.specs.Prelude.{Some};
+ghost use Rattle.std.specs.Fmt.{DisplaysOnOk};
+ghost use Rattle.orders.specs.Texts.{order_lines, report_text};
+ghost use Rattle.orders.specs.Views.{orders_left, reported};
+
+use crate::{Orders, Tour};
 use std::fmt;
 use verifier::Refusal;
 
-/// What an opened key record names.
+/// The key record refused, and then no order is looked at; or opened, and the orders that follow it.
 #[derive(Clone, Copy)]
-pub struct KeySummary {
-    pub hash: u8,
-    pub code: u8,
-    pub height: u8,
+pub enum Report<'a> {
+    Refused(Refusal),
+    Opened(Tour<'a>),
 }
 
-/// The outcome of the key record, and of each order: the leaf number of one that opens.
-#[derive(Drop)]
-pub struct Report {
-    pub key: Result<KeySummary, Refusal>,
-    pub orders: Vec<Result<u16, Refusal>>,
+// A line for each order.
+fn write_orders<W: fmt::Write>(orders: Orders<'_>, f: &mut fmt::Formatter<W>) -> fmt::Result
+    ensures { DisplaysOnOk W.write_str_gives f.old result (Some (order_lines (orders_left orders.entry)))
+        f.new }
+{
+    for order in orders {
+        writeln!(f, "{order}")?;
+    }
+    Ok(())
 }
 
 // A line for the key, and one for each order, counted from 1.
-impl fmt::Display for Report {
+impl fmt::Display for Report<'_> {
+    ghost output = { λ report. Some (report_text (reported report)) };
+
     fn fmt<W: fmt::Write>(&self, f: &mut fmt::Formatter<W>) -> fmt::Result {
-        match self.key {
-            Ok(KeySummary { hash, code, height }) => writeln!(f, "key {hash} {code} {height}")?,
-            Err(refusal) => writeln!(f, "key refused {refusal}")?,
-        }
-        for (i, outcome) in (1u64..).zip(self.orders.iter()) {
-            match outcome {
-                Ok(leaf) => writeln!(f, "order {i} leaf {leaf} open")?,
-                Err(refusal) => writeln!(f, "order {i} refused {refusal}")?,
+        match self {
+            Report::Refused(refusal) => writeln!(f, "key refused {refusal}"),
+            Report::Opened(tour) => {
+                let summary = tour.summary();
+                writeln!(f, "key {summary}")?;
+                write_orders(tour.orders(), f)
             }
         }
-        Ok(())
     }
 }

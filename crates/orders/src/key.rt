@@ -1,0 +1,24 @@
+//! What a key record names.
+
+use std::fmt;
+
+/// What an opened key record names: the numbers of hash and code, and the height.
+#[derive(Clone, Copy)]
+pub struct KeySummary {
+    pub hash: u8,
+    pub code: u8,
+    pub height: u8,
+}
+
+// The numbers and the height, one space apart.
+impl fmt::Display for KeySummary {
+    ghost use Rattle.std.specs.Prelude.{Some};
+    ghost use Rattle.orders.specs.Texts.{summary_text};
+
+    ghost output = { λ key. Some (summary_text key) };
+
+    fn fmt<W: fmt::Write>(&self, f: &mut fmt::Formatter<W>) -> fmt::Result {
+        let KeySummary { hash, code, height } = *self;
+        write!(f, "{hash} {code} {height}")
+    }
+}

@@ -1,0 +1,27 @@
+//! An order that was checked.
+
+use std::fmt;
+use verifier::Refusal;
+
+/// An order: its number in the tour, counted from 1, and its outcome, the leaf number of one that opens.
+#[derive(Clone, Copy)]
+pub struct Order {
+    pub number: u64,
+    pub outcome: Result<u16, Refusal>,
+}
+
+// The text of a line, without its end.
+impl fmt::Display for Order {
+    ghost use Rattle.std.specs.Prelude.{Some};
+    ghost use Rattle.orders.specs.Texts.{order_text};
+
+    ghost output = { λ order. Some (order_text order) };
+
+    fn fmt<W: fmt::Write>(&self, f: &mut fmt::Formatter<W>) -> fmt::Result {
+        let number = self.number;
+        match self.outcome {
+            Ok(leaf) => write!(f, "order {number} leaf {leaf} open"),
+            Err(refusal) => write!(f, "order {number} refused {refusal}"),
+        }
+    }
+}
