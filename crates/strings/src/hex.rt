@@ -1,15 +1,28 @@
 //! Bytes in hex.
 
+ghost use Rattle.std.specs.Prelude.{Some};
+ghost use Rattle.std.specs.Fmt.{DisplaysOnOk};
+ghost use Rattle.strings.specs.Hex.{two_digits, hex_text};
+
 use std::fmt;
 
 /// Bytes, printed as hex digits, two for each, in lower case.
 #[derive(Clone, Copy)]
 pub struct Hex<'a>(pub &'a [u8]);
 
+// A byte, as two digits.
+fn write_byte<W: fmt::Write>(byte: u8, f: &mut fmt::Formatter<W>) -> fmt::Result
+    ensures { DisplaysOnOk W.write_str_gives f.old result (Some (two_digits byte)) f.new }
+{
+    write!(f, "{byte:02x}")
+}
+
 impl fmt::Display for Hex<'_> {
+    ghost output = { λ hex. Some (hex_text hex.0.now) };
+
     fn fmt<W: fmt::Write>(&self, f: &mut fmt::Formatter<W>) -> fmt::Result {
         for byte in self.0 {
-            write!(f, "{byte:02x}")?;
+            write_byte(*byte, f)?;
         }
         Ok(())
     }
