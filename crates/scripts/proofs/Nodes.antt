@@ -1,26 +1,22 @@
 -- The nodes that a maker holds, level by level.
 -- Assumes nothing.
-use Rattle.std.proofs.Common.{◌≡◌, ℕ, ◌+◌, List, [], ◌∷◌, ◌++◌, map, sym, ap, ◌∙◌, append-nil, add-one}
-use Rattle.std.proofs.lemmas.List.{map-append}
+use Rattle.std.proofs.Common.{◌≡◌, ℕ, ◌+◌, ◌<◌, List, [], ◌∷◌, ◌++◌, length, get_or, set, take, sym, ap, ◌∙◌, add-one, Option, refl}
+use Rattle.std.proofs.lemmas.List.{flat_map_more, take_more_set}
+use Rattle.std.specs.List.{flat_map}
 use Rattle.histories.specs.Rules.{held_rule}
 use Rattle.histories.specs.States.{Making}
-use Rattle.scripts.specs.Replies.{node_of, held_one, held_below}
+use Rattle.scripts.specs.Replies.{held_in, held_one, held_below}
 use Rattle.scripts.specs.declared.answer.Node.{Node}
 
-pub held_none : (m : Making) (xs : List Node) → xs ≡ [] → map node_of xs ≡ held_below m 0
+pub nodes-none : (m : Making) (xs : List (Option Node)) → flat_map held_in (take 0 xs) ≡ held_below m 0
 unfolding held_below
-held_none m xs e = ap (map node_of) e
+nodes-none m xs = refl
 
 held_more : (m : Making) (n : ℕ) → held_below m n ++ held_one n (held_rule m n) ≡ held_below m (n + 1)
 unfolding held_below
 held_more m n = sym (ap (held_below m) (add-one n))
 
-pub nodes-more : (m : Making) (n : ℕ) (xs after : List Node) (x : Node) → map node_of xs ≡ held_below m n → after ≡ xs ++ x ∷ [] → held_one n (held_rule m n) ≡ node_of x ∷ [] → map node_of after ≡ held_below m (n + 1)
-nodes-more m n xs after x inv pushed is =
-    ap (map node_of) pushed
-    ∙ (map-append node_of xs (x ∷ [])
-    ∙ (ap (λ t. t ++ node_of x ∷ []) inv ∙ (ap (λ t. held_below m n ++ t) (sym is) ∙ held_more m n)))
-
-pub nodes-same : (m : Making) (n : ℕ) (xs : List Node) → map node_of xs ≡ held_below m n → held_one n (held_rule m n) ≡ [] → map node_of xs ≡ held_below m (n + 1)
-nodes-same m n xs inv is =
-    inv ∙ (sym (append-nil (held_below m n)) ∙ (ap (λ t. held_below m n ++ t) (sym is) ∙ held_more m n))
+pub nodes-more : (m : Making) (n : ℕ) (xs : List (Option Node)) (x : Option Node) → n < length xs → flat_map held_in (take n xs) ≡ held_below m n → held_in x ≡ held_one n (held_rule m n) → flat_map held_in (take (n + 1) (set xs n x)) ≡ held_below m (n + 1)
+nodes-more m n xs x lt inv is =
+    ap (flat_map held_in) (take_more_set xs n x lt)
+    ∙ (sym (flat_map_more held_in [] (take n xs) x) ∙ ((λ i. inv i ++ is i) ∙ held_more m n))

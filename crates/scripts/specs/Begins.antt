@@ -1,11 +1,13 @@
 -- Beginning a key.
 -- Assumes nothing.
-use Rattle.std.specs.Prelude.{ℕ, Ok, Result}
+use Rattle.std.specs.Prelude.{ℕ, Ok, Err, Result}
 use Rattle.histories.specs.Rules.{plan_rule}
 use Rattle.schemes.specs.Names.{scheme_numbered}
 use Rattle.schemes.specs.declared.scheme.Scheme.{Scheme}
-use Rattle.verifier.specs.Rules.{after}
+use Rattle.schemes.specs.declared.unknown.UnknownScheme as unknown
 use Rattle.verifier.specs.declared.refusal.Refusal.{Refusal}
+use Rattle.scripts.specs.declared.begin.NotBegun.{NotBegun}
+use Rattle.scripts.specs.declared.begin.NotBegun.TheVariants.{Refused, UnknownScheme}
 use Rattle.scripts.specs.declared.begin.Start.{Start}
 
 -- a height, and a hash and a code
@@ -16,7 +18,12 @@ pub record Named : Type 0 where
 abbrev pub start_of : Start → Named
 start_of s = record { height = s.plan.height; scheme = s.scheme }
 
--- begin: a height outside 1 to 8 is refused, and then a hash or code that is not known
-abbrev pub start_rule : ℕ → ℕ → ℕ → Result Named Refusal
-start_rule hash code height =
-    after (plan_rule height) (λ h. after (scheme_numbered hash code) (λ scheme. Ok (record { height = h; scheme = scheme })))
+-- a plan is asked for first, and then a hash and a code
+abbrev pub planned : Result ℕ Refusal → Result Scheme unknown.UnknownScheme → Result Named NotBegun
+planned (Err e) scheme = Err (Refused e)
+planned (Ok height) (Err e) = Err UnknownScheme
+planned (Ok height) (Ok scheme) = Ok (record { height = height; scheme = scheme })
+
+-- begin: a height outside 1 to 8 is refused, and then a hash or code is not known
+abbrev pub start_rule : ℕ → ℕ → ℕ → Result Named NotBegun
+start_rule hash code height = planned (plan_rule height) (scheme_numbered hash code)

@@ -1,6 +1,6 @@
 -- The calls of a key that is begun, and the lines that name them.
 -- Assumes nothing.
-use Rattle.std.specs.Prelude.{ℕ, if◌then◌else◌, List, [], length, Some, None, vec_items, codes, Option, ◌==◌}
+use Rattle.std.specs.Prelude.{ℕ, if◌then◌else◌, List, [], length, Some, None, codes, Option, ◌==◌}
 use Rattle.std.specs.Option.{option_map}
 use Rattle.std.specs.Str.{bytes_eq}
 use Rattle.scripts.specs.Digits.{number_rule}
@@ -24,11 +24,11 @@ abbrev pub said : Call → Said
 said Grow = grow
 said Nodes = nodes
 said Finish = finish
-said (Key room) = key room
-said (Sign stamp room) = sign stamp room
+said (Key room) = key room.bytes
+said (Sign stamp room) = sign stamp room.bytes
 said (Skip leaf) = skip leaf
 said Retire = retire
-said (Trace stamp bytes) = trace stamp (vec_items bytes)
+said (Trace stamp bytes) = trace stamp bytes.now
 
 -- a call that takes no word more
 abbrev pub alone : Said → Option (List ℕ) → Option Said

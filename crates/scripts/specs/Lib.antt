@@ -4,4 +4,5 @@ pub mod Words
 pub mod Begins
 pub mod Calls
 pub mod Replies
+pub mod Texts
 pub mod Lines

@@ -1,6 +1,7 @@
 -- What a session answers to a call, and what it leaves.
 -- Assumes nothing.
-use Rattle.std.specs.Prelude.{ℕ, ⊤, zero, suc, List, [], ◌∷◌, ◌++◌, map, take, replicate, Some, None, Ok, Err, vec_items, Option, Result}
+use Rattle.std.specs.Prelude.{ℕ, zero, suc, List, [], ◌∷◌, ◌++◌, take, replicate, Some, None, Ok, Err, Option, Result}
+use Rattle.std.specs.List.{flat_map}
 use Rattle.codes.specs.declared.Code as code_trait
 use Rattle.hashes.specs.declared.ChainHash as chain_hash
 use Rattle.hashes.specs.declared.TreeHash as tree_hash
@@ -12,8 +13,10 @@ use Rattle.tree.specs.Meaning.{Hash, Code}
 use Rattle.verifier.specs.declared.refusal.Refusal.{Refusal}
 use Rattle.scripts.specs.Calls.{Said, grow, nodes, finish, key, sign, skip, retire, trace}
 use Rattle.scripts.specs.declared.answer.Answer.{Answer}
-use Rattle.scripts.specs.declared.answer.Answer.TheVariants.{Begun, Grown, Nodes, Finished, Key, Signed, Next, Retired, Verdict, Refused, NotNow, NotACall}
+use Rattle.scripts.specs.declared.answer.Answer.TheVariants.{Begun, Grown, Nodes, Finished, Key, Signed, Next, Retired, Verdict, Refused, UnknownScheme, NotNow, NotACall}
 use Rattle.scripts.specs.declared.answer.Node.{Node}
+use Rattle.scripts.specs.declared.begin.NotBegun.{NotBegun}
+use Rattle.scripts.specs.declared.begin.NotBegun.TheVariants as not_begun
 use Rattle.scripts.specs.declared.session.Session.{Session}
 use Rattle.scripts.specs.declared.session.Session.TheVariants as session
 
@@ -25,6 +28,11 @@ pub record Held : Type 0 where
 
 abbrev pub node_of : Node → Held
 node_of n = record { level = n.level; position = n.position; node = n.node }
+
+-- the node of a level of an answer, where it has one
+abbrev pub held_in : Option Node → List Held
+held_in None = []
+held_in (Some n) = node_of n ∷ []
 
 -- an answer, with what it tells
 pub data Told : Type 0 where
@@ -38,22 +46,29 @@ pub data Told : Type 0 where
   gone : Told
   verdict : (numbers : ℕ × ℕ × ℕ) (report : List ℕ) → Told
   refused : Refusal → Told
+  unknown_scheme : Told
   not_now : Told
   no_call : Told
 
 abbrev pub told : Answer → Told
 told (Begun hash code height) = begun hash code height
 told (Grown n) = grown n
-told (Nodes held-nodes) = held (map node_of (vec_items held-nodes))
+told (Nodes levels) = held (flat_map held_in levels)
 told Finished = finished
-told (Key bytes) = keyed (vec_items bytes)
-told (Signed leaf bytes) = signed leaf (vec_items bytes)
+told (Key bytes) = keyed bytes.now
+told (Signed leaf bytes) = signed leaf bytes.now
 told (Next leaf) = next leaf
 told Retired = gone
 told (Verdict numbers report) = verdict numbers report
 told (Refused e) = refused e
+told UnknownScheme = unknown_scheme
 told NotNow = not_now
 told NotACall = no_call
+
+-- what a begin is answered that begins no key
+abbrev pub not_begun_reply : NotBegun → Told
+not_begun_reply (not_begun.Refused e) = refused e
+not_begun_reply not_begun.UnknownScheme = unknown_scheme
 
 abbrev pub answered : {A : Type 0} → (A → Told) → Result A Refusal → Told
 answered f (Ok x) = f x
@@ -76,17 +91,6 @@ held_nodes m = held_below m 9
 -- an output of this size: zeros
 abbrev pub output : ℕ → List ℕ
 output room = replicate room 0
-
--- the calls whose answer takes memory
-abbrev pub Takes : Said → Type 0
-Takes grow = ⊥
-Takes nodes = ⊤
-Takes finish = ⊥
-Takes (key room) = ⊤
-Takes (sign stamp room) = ⊤
-Takes (skip leaf) = ⊥
-Takes retire = ⊥
-Takes (trace stamp bytes) = ⊥
 
 module _ (hash : Hash) (code : Code) where
   abbrev pub key_reply : Signing → ℕ → Told

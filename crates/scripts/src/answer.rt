@@ -1,7 +1,6 @@
-//! Answers, and the lines that are printed of them.
+//! Answers.
 
-use std::fmt;
-use strings::Hex;
+use crate::NotBegun;
 use verifier::Refusal;
 
 /// A node that a maker holds.
@@ -13,20 +12,21 @@ pub struct Node {
 }
 
 /// What a call is answered with.
-#[derive(Drop)]
-pub enum Answer {
+#[derive(Clone, Copy)]
+pub enum Answer<'o> {
     Begun {
         hash: u8,
         code: u8,
         height: u8,
     },
     Grown(u16),
-    Nodes(Vec<Node>),
+    /// The nodes that are held, lowest level number first.
+    Nodes([Option<Node>; 9]),
     Finished,
-    Key(Vec<u8>),
+    Key(&'o [u8]),
     Signed {
         leaf: u16,
-        record: Vec<u8>,
+        record: &'o [u8],
     },
     Next(u16),
     Retired,
@@ -35,47 +35,21 @@ pub enum Answer {
         report: [u8; 64],
     },
     Refused(Refusal),
+    UnknownScheme,
     NotNow,
     NotACall,
 }
 
-impl fmt::Display for Node {
-    fn fmt<W: fmt::Write>(&self, f: &mut fmt::Formatter<W>) -> fmt::Result {
-        write!(f, "{}:{}:{}", self.level, self.position, Hex(&self.node))
-    }
-}
+impl From<NotBegun> for Answer<'_> {
+    ghost use Rattle.std.specs.Prelude.{◌≡◌};
+    ghost use Rattle.scripts.specs.Replies.{told, not_begun_reply};
 
-// A line, without its end.
-impl fmt::Display for Answer {
-    fn fmt<W: fmt::Write>(&self, f: &mut fmt::Formatter<W>) -> fmt::Result {
-        match self {
-            Answer::Begun { hash, code, height } => write!(f, "begun {hash} {code} {height}"),
-            Answer::Grown(grown) => write!(f, "grown {grown}"),
-            Answer::Nodes(nodes) => {
-                write!(f, "nodes")?;
-                for node in nodes {
-                    write!(f, " {node}")?;
-                }
-                Ok(())
-            }
-            Answer::Finished => write!(f, "finished"),
-            Answer::Key(record) => write!(f, "key {}", Hex(record.as_slice())),
-            Answer::Signed { leaf, record } => {
-                write!(f, "leaf {leaf} record {}", Hex(record.as_slice()))
-            }
-            Answer::Next(next) => write!(f, "next {next}"),
-            Answer::Retired => write!(f, "retired"),
-            Answer::Verdict {
-                numbers: (verdict, first, second),
-                report,
-            } => write!(
-                f,
-                "verdict {verdict} {first} {second} report {}",
-                Hex(report)
-            ),
-            Answer::Refused(refusal) => write!(f, "refused {refusal}"),
-            Answer::NotNow => write!(f, "not now"),
-            Answer::NotACall => write!(f, "not a call"),
+    ghost from_gives = { λ not_begun answer. told answer ≡ not_begun_reply not_begun };
+
+    fn from(not_begun: NotBegun) -> Self {
+        match not_begun {
+            NotBegun::Refused(refusal) => Answer::Refused(refusal),
+            NotBegun::UnknownScheme => Answer::UnknownScheme,
         }
     }
 }

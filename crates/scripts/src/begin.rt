@@ -4,7 +4,7 @@ ghost use Rattle.std.specs.Prelude.{◌≡◌};
 ghost use Rattle.scripts.specs.Begins.{start_of, start_rule};
 ghost use Rattle.verifier.specs.Rules.{seen};
 
-use schemes::Scheme;
+use schemes::{Scheme, UnknownScheme};
 use signer::Plan;
 use verifier::Refusal;
 
@@ -19,16 +19,47 @@ pub struct Begin {
     pub masks: [u8; 512],
 }
 
-/// What a begin names, where it is not refused.
+/// What a begin names, where it begins a key.
 #[derive(Clone, Copy)]
 pub struct Start {
     pub plan: Plan,
     pub scheme: Scheme,
 }
 
+/// Why a begin begins no key.
+#[derive(Clone, Copy, PartialEq, Eq, Debug)]
+pub enum NotBegun {
+    /// A plan is refused.
+    Refused(Refusal),
+    /// No hash or no code has the number.
+    UnknownScheme,
+}
+
+impl From<Refusal> for NotBegun {
+    ghost use Rattle.std.specs.Prelude.{◌≡◌};
+    ghost use Rattle.scripts.specs.declared.begin.NotBegun.TheVariants.{Refused};
+
+    ghost from_gives = { λ refusal not_begun. not_begun ≡ Refused refusal };
+
+    fn from(refusal: Refusal) -> NotBegun {
+        NotBegun::Refused(refusal)
+    }
+}
+
+impl From<UnknownScheme> for NotBegun {
+    ghost use Rattle.std.specs.Prelude.{◌≡◌};
+    ghost use Rattle.scripts.specs.declared.begin.NotBegun.TheVariants.{UnknownScheme};
+
+    ghost from_gives = { λ _ not_begun. not_begun ≡ UnknownScheme };
+
+    fn from(_unknown: UnknownScheme) -> NotBegun {
+        NotBegun::UnknownScheme
+    }
+}
+
 impl Begin {
-    /// Refuses a height outside 1 to 8, and then a hash or code that is not known.
-    pub fn start(&self) -> Result<Start, Refusal>
+    /// Answers an error for a height outside 1 to 8, and then for a hash or code that is not known.
+    pub fn start(&self) -> Result<Start, NotBegun>
         ensures { seen start_of result ≡ start_rule self.now.hash self.now.code self.now.height }
     {
         let plan = Plan::new(self.height)?;

@@ -1,54 +1,50 @@
 //! The calls of a key that is begun.
 
-ghost use Rattle.std.specs.Prelude.{◌≡◌, IfOk, OnErr, true, codes, vec_items};
-ghost use Rattle.std.specs.Str.{bytes_eq};
+ghost use Rattle.std.specs.Prelude.{◌≡◌, ◌≤◌, length};
 ghost use Rattle.std.specs.Option.{option_map};
 ghost use Rattle.scripts.specs.Calls.{said, alone, room_rule, read_key, read_sign, read_skip, read_trace, read_call, record_rule};
 ghost use Rattle.scripts.specs.Words.{left_of};
 
 use crate::digits::number;
-use crate::hex;
 use crate::words::Words;
-use std::alloc::{AllocError, Global};
-
-// The output's size where none is given: as much as any record takes.
-const ROOM: u32 = 4_232;
-
-// As much room as can be asked for.
-const MOST_ROOM: u32 = 65_536;
+use crate::{LONGEST_RECORD, MOST_ROOM, Room, hex};
 
 /// A call, with what it is given.
-#[derive(Drop)]
-pub enum Call {
+#[derive(Clone, Copy)]
+pub enum Call<'a> {
     Grow,
     Nodes,
     Finish,
-    Key { room: u32 },
-    Sign { stamp: [u8; 16], room: u32 },
+    Key { room: Room },
+    Sign { stamp: [u8; 16], room: Room },
     Skip { leaf: u16 },
     Retire,
-    Trace { stamp: [u8; 16], record: Vec<u8> },
+    Trace { stamp: [u8; 16], record: &'a [u8] },
 }
 
 // A call that takes no word more.
-fn alone_call(call: Call, words: Words<'_>) -> Option<Call>
-    ensures { option_map said result ≡ alone (said call) (left_of words.entry) }
+fn alone_call<'a>(call: Call<'a>, words: Words<'_>) -> Option<Call<'a>>
+    ensures { option_map said result ≡ alone (said call.entry) (left_of words.entry) }
 {
     words.text.is_none().then_some(call)
 }
 
 // ROOM, which may be left out.
-fn read_room(words: Words<'_>) -> Option<u32>
-    ensures { result ≡ room_rule (left_of words.entry) }
+fn read_room(words: Words<'_>) -> Option<Room>
+    ensures { option_map (λ room. room.bytes) result ≡ room_rule (left_of words.entry) }
 {
     match words.text {
-        None => Some(ROOM),
-        Some(text) => number(text, MOST_ROOM),
+        // As much as any record takes.
+        None => Some(Room { bytes: 4_232 }),
+        Some(text) => {
+            let bytes = number(text, MOST_ROOM as u32)?;
+            Some(Room { bytes })
+        }
     }
 }
 
 // key [ROOM]
-fn read_key(words: Words<'_>) -> Option<Call>
+fn read_key(words: Words<'_>) -> Option<Call<'static>>
     ensures { option_map said result ≡ read_key (left_of words.entry) }
 {
     let room = read_room(words)?;
@@ -56,7 +52,7 @@ fn read_key(words: Words<'_>) -> Option<Call>
 }
 
 // sign STAMP [ROOM]
-fn read_sign(mut words: Words<'_>) -> Option<Call>
+fn read_sign(mut words: Words<'_>) -> Option<Call<'static>>
     ensures { option_map said result ≡ read_sign (left_of words.entry) }
 {
     let stamp = words.string()?;
@@ -65,59 +61,53 @@ fn read_sign(mut words: Words<'_>) -> Option<Call>
 }
 
 // skip N
-fn read_skip(words: Words<'_>) -> Option<Call>
+fn read_skip(words: Words<'_>) -> Option<Call<'static>>
     ensures { option_map said result ≡ read_skip (left_of words.entry) }
 {
     let leaf = number(words.text?, u16::MAX as u32)?;
     Some(Call::Skip { leaf: leaf as u16 })
 }
 
-// RECORD: hex digits, or - for no bytes.
-fn read_record(heap: Global, text: &[u8]) -> Result<Option<Vec<u8>>, AllocError>
-    ensures { IfOk result (λ o. option_map vec_items o ≡ record_rule text.now) }
+// RECORD: hex digits, or - for no bytes. The bytes are written into the front of `store`.
+fn read_record<'a>(text: &[u8], store: &'a mut [u8; LONGEST_RECORD]) -> Option<&'a [u8]>
+    requires { length text.now ≤ 65536 }
+    ensures { option_map (λ bytes. bytes.now) result ≡ record_rule text.now }
 {
     match text {
-        b"-" => Ok(Some(Vec::new(heap))),
-        [] => Ok(None),
-        _ => hex::bytes(heap, text),
+        b"-" => Some(&store[..0]),
+        [] => None,
+        _ => hex::bytes(text, store),
     }
 }
 
 // trace STAMP RECORD
-fn read_trace(heap: Global, mut words: Words<'_>) -> Result<Option<Call>, AllocError>
-    ensures { IfOk result (λ o. option_map said o ≡ read_trace (left_of words.entry)) }
+fn read_trace<'a>(mut words: Words<'_>, store: &'a mut [u8; LONGEST_RECORD]) -> Option<Call<'a>>
+    ensures { option_map said result ≡ read_trace (left_of words.entry) }
 {
-    let Some(stamp) = words.string() else {
-        return Ok(None);
-    };
-    let Some(text) = words.text else {
-        return Ok(None);
-    };
-    let record = read_record(heap, text)?;
-    Ok(record.map(|record| Call::Trace { stamp, record }))
+    let stamp = words.string()?;
+    let record = read_record(words.text?, store)?;
+    Some(Call::Trace { stamp, record })
 }
 
-impl Call {
-    /// The call with this name and these words.
+impl<'a> Call<'a> {
+    /// The call with this name and these words. The record of a trace is written into the front of `store`.
     pub(crate) fn read(
-        heap: Global,
         name: &str,
         words: Words<'_>,
-    ) -> Result<Option<Call>, AllocError>
-        ensures call { IfOk result
-            (λ o. option_map said o ≡ read_call name.now (left_of words.entry)) }
-        ensures lacking { OnErr result (bytes_eq name.now (codes "trace") ≡ true) }
+        store: &'a mut [u8; LONGEST_RECORD],
+    ) -> Option<Call<'a>>
+        ensures { option_map said result ≡ read_call name.now (left_of words.entry) }
     {
         match name {
-            "grow" => Ok(alone_call(Call::Grow, words)),
-            "nodes" => Ok(alone_call(Call::Nodes, words)),
-            "finish" => Ok(alone_call(Call::Finish, words)),
-            "key" => Ok(read_key(words)),
-            "sign" => Ok(read_sign(words)),
-            "skip" => Ok(read_skip(words)),
-            "retire" => Ok(alone_call(Call::Retire, words)),
-            "trace" => read_trace(heap, words),
-            _ => Ok(None),
+            "grow" => alone_call(Call::Grow, words),
+            "nodes" => alone_call(Call::Nodes, words),
+            "finish" => alone_call(Call::Finish, words),
+            "key" => read_key(words),
+            "sign" => read_sign(words),
+            "skip" => read_skip(words),
+            "retire" => alone_call(Call::Retire, words),
+            "trace" => return read_trace(words, store),
+            _ => None,
         }
     }
 }

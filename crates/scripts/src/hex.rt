@@ -1,10 +1,10 @@
 //! Bytes as hex digits, two to a byte, in lower case.
 
-ghost use Rattle.std.specs.Prelude.{◌≡◌, ◌<◌, length, IfSome, IfOk, vec_items};
+ghost use Rattle.std.specs.Prelude.{◌≡◌, ◌<◌, ◌≤◌, length, IfSome};
 ghost use Rattle.std.specs.Option.{option_map};
 ghost use Rattle.scripts.specs.Hex.{hex_digit, byte_of, hex_bytes, hex_of};
 
-use std::alloc::{AllocError, Global};
+use crate::LONGEST_RECORD;
 
 // What a digit stands for.
 fn value(digit: u8) -> Option<u8>
@@ -39,18 +39,17 @@ fn fill(mut text: &[u8], out: &mut [u8]) -> Option<()>
     text.is_empty().then_some(())
 }
 
-/// The bytes that a text names, where it is hex digits.
-pub(crate) fn bytes(heap: Global, text: &[u8]) -> Result<Option<Vec<u8>>, AllocError>
-    ensures { IfOk result (λ o. option_map vec_items o ≡ hex_bytes text.now) }
+/// The bytes that a text names, where it is hex digits. They are written into the front of `store`.
+pub(crate) fn bytes<'a>(text: &[u8], store: &'a mut [u8; LONGEST_RECORD]) -> Option<&'a [u8]>
+    requires { length text.now ≤ 65536 }
+    ensures { option_map (λ b. b.now) result ≡ hex_bytes text.now }
 {
     if text.len() % 2 != 0 {
-        return Ok(None);
+        return None;
     }
-    let mut out = vec![in heap; 0; text.len() / 2]?;
-    match fill(text, out.as_mut_slice()) {
-        Some(()) => Ok(Some(out)),
-        None => Ok(None),
-    }
+    let out = &mut store[..text.len() / 2];
+    fill(text, out)?;
+    Some(out)
 }
 
 /// The N bytes that a text names, where it is hex digits, two for each.

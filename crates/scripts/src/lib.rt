@@ -7,11 +7,14 @@ mod call;
 mod digits;
 mod hex;
 mod line;
+mod printing;
+mod room;
 mod session;
 mod words;
 
 pub use answer::{Answer, Node};
-pub use begin::{Begin, Start};
+pub use begin::{Begin, NotBegun, Start};
 pub use call::Call;
-pub use line::{LONGEST, Line};
+pub use line::{LONGEST, LONGEST_RECORD, Line};
+pub use room::{MOST_ROOM, Room};
 pub use session::Session;

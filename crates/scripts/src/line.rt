@@ -1,26 +1,27 @@
 //! A line of a script.
 
-ghost use Rattle.std.specs.Prelude.{◌≡◌, IfOk, OnErr, true, codes};
-ghost use Rattle.std.specs.Str.{bytes_eq};
+ghost use Rattle.std.specs.Prelude.{◌≡◌};
 ghost use Rattle.scripts.specs.Lines.{line_of, line_rule, read_begin};
-ghost use Rattle.scripts.specs.Words.{word_of, left_of};
+ghost use Rattle.scripts.specs.Words.{left_of};
 
-use crate::words::{Words, split_word};
+use crate::words::Words;
 use crate::{Begin, Call, hex};
-use std::alloc::{AllocError, Global};
 
 /// As long as a line may be, in bytes.
 pub const LONGEST: usize = 65_536;
 
+/// As long as the record of a line can be, in bytes.
+pub const LONGEST_RECORD: usize = LONGEST / 2;
+
 /// What a line asks for.
-#[derive(Drop)]
-pub enum Line {
+#[derive(Clone, Copy)]
+pub enum Line<'a> {
     /// Nothing to answer.
     Silent,
     /// Not a call.
     NoCall,
     Begin(Begin),
-    Call(Call),
+    Call(Call<'a>),
 }
 
 // begin HASH CODE HEIGHT SEED HASHKEY MASKS
@@ -43,25 +44,30 @@ fn read_begin(mut words: Words<'_>) -> Option<Begin>
     })
 }
 
-impl Line {
-    /// Reads a line.
-    pub fn read(heap: Global, text: &[u8]) -> Result<Line, AllocError>
-        ensures line { IfOk result (λ line. line_of line ≡ line_rule text.now) }
-        ensures lacking { OnErr result (bytes_eq (word_of text.now) (codes "trace") ≡ true) }
+impl<'a> Line<'a> {
+    /// Reads a line. The record of a trace is written into the front of `store`, and the call borrows it there.
+    pub fn read(text: &[u8], store: &'a mut [u8; LONGEST_RECORD]) -> Line<'a>
+        ensures { line_of result ≡ line_rule text.now }
     {
         if let [] | [b'#', ..] = text {
-            return Ok(Line::Silent);
+            return Line::Silent;
         }
         if text.len() > LONGEST {
-            return Ok(Line::NoCall);
+            return Line::NoCall;
         }
-        let (name, words) = split_word(text);
+        let (name, words) = Words::split(text);
         let Ok(name) = str::from_utf8(name) else {
-            return Ok(Line::NoCall);
+            return Line::NoCall;
         };
         match name {
-            "begin" => Ok(read_begin(words).map_or(Line::NoCall, Line::Begin)),
-            _ => Ok(Call::read(heap, name, words)?.map_or(Line::NoCall, Line::Call)),
+            "begin" => match read_begin(words) {
+                Some(begin) => Line::Begin(begin),
+                None => Line::NoCall,
+            },
+            _ => match Call::read(name, words, store) {
+                Some(call) => Line::Call(call),
+                None => Line::NoCall,
+            },
         }
     }
 }

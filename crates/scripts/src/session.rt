@@ -1,20 +1,19 @@
 //! A key from its begin on.
 
-ghost use Rattle.std.specs.Prelude.{◌≡◌, IfOk, OnErr};
+ghost use Rattle.std.specs.Prelude.{◌≡◌};
 ghost use Rattle.histories.specs.Histories.{growing};
 ghost use Rattle.histories.specs.Rules.{begin_rule};
 ghost use Rattle.scripts.specs.Calls.{said};
-ghost use Rattle.scripts.specs.Replies.{Takes, told, state_of, reply, leaves};
+ghost use Rattle.scripts.specs.Replies.{told, state_of, reply, leaves};
 ghost use Rattle.tree.specs.Meaning.{hash_of, code_of};
 
 use crate::session::maker_calls::while_growing;
 use crate::session::retired_calls::out_of_service;
 use crate::session::signer_calls::in_service;
-use crate::{Answer, Begin, Call};
+use crate::{Answer, Begin, Call, MOST_ROOM};
 use codes::Code;
 use hashes::TreeHash;
 use signer::{Maker, Plan, Retired, Signer};
-use std::alloc::{AllocError, Global};
 
 mod maker_calls;
 mod outputs;
@@ -44,18 +43,22 @@ impl<H: TreeHash, C: Code> Session<H, C> {
         Session::Growing(Maker::begin(plan, begin.seed, begin.hash_key, begin.masks))
     }
 
-    /// Answers a call. One that the key does not have now changes nothing.
-    pub fn answer(self, heap: Global, call: &Call) -> Result<(Session<H, C>, Answer), AllocError>
-        ensures answer { IfOk result (λ x. told x.1 ≡ reply (hash_of H.ChainHash H.TreeHash.own)
-            (code_of C.Code) (state_of self) (said call.now)) }
-        ensures state { IfOk result (λ x. state_of x.0 ≡ leaves (hash_of H.ChainHash H.TreeHash.own)
-            (code_of C.Code) (state_of self) (said call.now)) }
-        ensures lacking { OnErr result (Takes (said call.now)) }
+    /// Answers a call. One that the key does not have now changes nothing. A record is written into the front of `out`, and the
+    /// answer borrows it there.
+    pub fn answer<'o>(
+        self,
+        call: &Call<'_>,
+        out: &'o mut [u8; MOST_ROOM],
+    ) -> (Session<H, C>, Answer<'o>)
+        ensures answer { told result.1 ≡ reply (hash_of H.ChainHash H.TreeHash.own) (code_of C.Code)
+            (state_of self) (said call.now) }
+        ensures state { state_of result.0 ≡ leaves (hash_of H.ChainHash H.TreeHash.own)
+            (code_of C.Code) (state_of self) (said call.now) }
     {
         match self {
-            Session::Growing(maker) => while_growing(heap, maker, call),
-            Session::Serving(signer) => in_service(heap, signer, call),
-            Session::Retired(signer) => out_of_service(heap, signer, call),
+            Session::Growing(maker) => while_growing(maker, call),
+            Session::Serving(signer) => in_service(signer, call, out),
+            Session::Retired(signer) => out_of_service(signer, call, out),
         }
     }
 }

@@ -1,17 +1,10 @@
 //! Words with single spaces between them.
 
-ghost use Rattle.std.specs.Prelude.{◌≡◌, position, ◌==◌};
-ghost use Rattle.std.specs.Option.{option_map};
-ghost use Rattle.scripts.specs.Words.{word_of, after_word, left_of, left_after, byte_word, string_word};
+ghost use Rattle.std.specs.Prelude.{◌≡◌, ◌≤◌, position, ◌==◌, length};
+ghost use Rattle.std.specs.Option.{ForSome, option_map};
 
 use crate::digits::number;
 use crate::hex;
-
-/// The words of a line that are left, where any are.
-#[derive(Clone, Copy)]
-pub struct Words<'a> {
-    pub text: Option<&'a [u8]>,
-}
 
 // Where the first space of a text is.
 fn first_space(text: &[u8]) -> Option<usize>
@@ -20,29 +13,39 @@ fn first_space(text: &[u8]) -> Option<usize>
     text.iter().position(|byte| *byte == b' ')
 }
 
-/// The first word of a text, and what follows the space after it.
-pub(crate) fn split_word(text: &[u8]) -> (&[u8], Words<'_>)
-    ensures word { result.0.now ≡ word_of text.now }
-    ensures rest { left_of result.1 ≡ after_word text.now }
-{
-    match first_space(text) {
-        Some(at) => (
-            &text[..at],
-            Words {
-                text: Some(&text[at + 1..]),
-            },
-        ),
-        None => (text, Words { text: None }),
-    }
+/// The words of a line that are left, where any are.
+#[derive(Clone, Copy)]
+pub struct Words<'a> {
+    pub text: Option<&'a [u8]>,
+    pub ghost short: { ForSome text (λ t. length t.now ≤ 65536) },
 }
 
 impl<'a> Words<'a> {
+    ghost use Rattle.scripts.specs.Words.{word_of, after_word, left_of, left_after, byte_word, string_word};
+
+    /// The first word of a text, and what follows the space after it.
+    pub(crate) fn split(text: &'a [u8]) -> (&'a [u8], Words<'a>)
+        requires { length text.now ≤ 65536 }
+        ensures word { result.0.now ≡ word_of text.now }
+        ensures rest { left_of result.1 ≡ after_word text.now }
+    {
+        match first_space(text) {
+            Some(at) => (
+                &text[..at],
+                Words {
+                    text: Some(&text[at + 1..]),
+                },
+            ),
+            None => (text, Words { text: None }),
+        }
+    }
+
     // Takes the first word.
     fn next(&mut self) -> Option<&'a [u8]>
         ensures word { option_map (λ x. x.now) result ≡ option_map word_of (left_of self.old) }
         ensures rest { left_of self.new ≡ left_after (left_of self.old) }
     {
-        let (word, rest) = split_word(self.text?);
+        let (word, rest) = Words::split(self.text?);
         *self = rest;
         Some(word)
     }

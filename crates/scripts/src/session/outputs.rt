@@ -1,13 +1,15 @@
 //! Outputs to be written.
 
-ghost use Rattle.std.specs.Prelude.{◌≡◌, IfOk};
+ghost use Rattle.std.specs.Prelude.{◌≡◌};
 ghost use Rattle.scripts.specs.Replies.{output};
 
-use std::alloc::{AllocError, Global};
+use crate::{MOST_ROOM, Room};
 
-/// An output of `room` bytes.
-pub(crate) fn output_of(heap: Global, room: u32) -> Result<Vec<u8>, AllocError>
-    ensures { IfOk result (λ v. v.items ≡ output room) }
+/// An output of this size: the front of a buffer, which becomes zero.
+pub(crate) fn output_of<'o>(out: &'o mut [u8; MOST_ROOM], room: Room) -> &'o mut [u8]
+    ensures { result.now ≡ output room.bytes }
 {
-    vec![in heap; 0; room as usize]
+    let out = &mut out[..room.bytes as usize];
+    out.fill(0);
+    out
 }

@@ -1,35 +1,33 @@
 //! The calls of a retired key.
 
-ghost use Rattle.std.specs.Prelude.{◌≡◌, IfOk, OnErr};
+ghost use Rattle.std.specs.Prelude.{◌≡◌};
 ghost use Rattle.histories.specs.Histories.{retired};
 ghost use Rattle.scripts.specs.Calls.{said};
-ghost use Rattle.scripts.specs.Replies.{Takes, told, state_of, reply, leaves};
+ghost use Rattle.scripts.specs.Replies.{told, state_of, reply, leaves};
 ghost use Rattle.signer.specs.Views.{signing_of};
 ghost use Rattle.tree.specs.Meaning.{hash_of, code_of};
 
 use crate::session::unchanged::{key, trace};
-use crate::{Answer, Call, Session};
+use crate::{Answer, Call, MOST_ROOM, Session};
 use codes::Code;
 use hashes::TreeHash;
 use signer::Retired;
-use std::alloc::{AllocError, Global};
 
 /// Answers a call of a retired key.
-pub(crate) fn out_of_service<H: TreeHash, C: Code>(
-    heap: Global,
+pub(crate) fn out_of_service<'o, H: TreeHash, C: Code>(
     signer: Retired<H, C>,
-    call: &Call,
-) -> Result<(Session<H, C>, Answer), AllocError>
-    ensures answer { IfOk result (λ x. told x.1 ≡ reply (hash_of H.ChainHash H.TreeHash.own)
-        (code_of C.Code) (retired (signing_of signer.signer)) (said call.now)) }
-    ensures state { IfOk result (λ x. state_of x.0 ≡ leaves (hash_of H.ChainHash H.TreeHash.own)
-        (code_of C.Code) (retired (signing_of signer.signer)) (said call.now)) }
-    ensures lacking { OnErr result (Takes (said call.now)) }
+    call: &Call<'_>,
+    out: &'o mut [u8; MOST_ROOM],
+) -> (Session<H, C>, Answer<'o>)
+    ensures answer { told result.1 ≡ reply (hash_of H.ChainHash H.TreeHash.own) (code_of C.Code)
+        (retired (signing_of signer.signer)) (said call.now) }
+    ensures state { state_of result.0 ≡ leaves (hash_of H.ChainHash H.TreeHash.own) (code_of C.Code)
+        (retired (signing_of signer.signer)) (said call.now) }
 {
     let answer = match call {
-        Call::Key { room } => key(heap, &signer, *room)?,
-        Call::Trace { stamp, record } => trace(&signer, stamp, record.as_slice()),
+        Call::Key { room } => key(&signer, *room, out),
+        Call::Trace { stamp, record } => trace(&signer, stamp, record),
         _ => Answer::NotNow,
     };
-    Ok((Session::Retired(signer), answer))
+    (Session::Retired(signer), answer)
 }

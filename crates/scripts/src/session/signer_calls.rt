@@ -1,69 +1,70 @@
 //! The calls of a key in service.
 
-ghost use Rattle.std.specs.Prelude.{◌≡◌, IfOk, OnOk, OnErr};
+ghost use Rattle.std.specs.Prelude.{◌≡◌};
 ghost use Rattle.histories.specs.Histories.{serving};
 ghost use Rattle.histories.specs.Rules.{sign_state, skip_answer, skip_state};
 ghost use Rattle.scripts.specs.Calls.{said};
-ghost use Rattle.scripts.specs.Replies.{Takes, told, next, answered, output, sign_reply, state_of, reply, leaves};
+ghost use Rattle.scripts.specs.Replies.{told, next, answered, output, sign_reply, state_of, reply, leaves};
 ghost use Rattle.signer.specs.Views.{signing_of};
 ghost use Rattle.tree.specs.Meaning.{hash_of, code_of};
 
 use crate::session::outputs::output_of;
 use crate::session::unchanged::{key, trace};
-use crate::{Answer, Call, Session};
+use crate::{Answer, Call, MOST_ROOM, Room, Session};
 use codes::Code;
 use hashes::TreeHash;
 use signer::Signer;
-use std::alloc::{AllocError, Global};
 
-fn sign<H: TreeHash, C: Code>(
-    heap: Global,
+fn sign<'o, H: TreeHash, C: Code>(
     signer: &mut Signer<H, C>,
     stamp: &[u8; 16],
-    room: u32,
-) -> Result<Answer, AllocError>
-    ensures answer { IfOk result (λ a. told a ≡ sign_reply (hash_of H.ChainHash H.TreeHash.own)
-        (code_of C.Code) (signing_of signer.old) stamp.now room) }
-    ensures state { OnOk result (signing_of signer.new ≡ sign_state (code_of C.Code)
-        (signing_of signer.old) stamp.now (output room)) }
+    room: Room,
+    out: &'o mut [u8; MOST_ROOM],
+) -> Answer<'o>
+    ensures answer { told result ≡ sign_reply (hash_of H.ChainHash H.TreeHash.own) (code_of C.Code)
+        (signing_of signer.old) stamp.now room.bytes }
+    ensures state { signing_of signer.new ≡ sign_state (code_of C.Code) (signing_of signer.old)
+        stamp.now (output room.bytes) }
 {
     let mut work = [0; 4096];
-    let mut out = output_of(heap, room)?;
-    match signer.sign(stamp, out.as_mut_slice(), &mut work) {
-        Ok((size, leaf)) => {
-            out.truncate(size);
-            Ok(Answer::Signed { leaf, record: out })
-        }
-        Err(refusal) => Ok(Answer::Refused(refusal)),
+    let out = output_of(out, room);
+    match signer.sign(stamp, out, &mut work) {
+        Ok((size, leaf)) => Answer::Signed {
+            leaf,
+            record: &out[..size],
+        },
+        Err(refusal) => Answer::Refused(refusal),
     }
 }
 
-fn skip<H: TreeHash, C: Code>(signer: &mut Signer<H, C>, leaf: u16) -> Answer
+fn skip<H: TreeHash, C: Code>(signer: &mut Signer<H, C>, leaf: u16) -> Answer<'static>
     ensures answer { told result ≡ answered next (skip_answer (signing_of signer.old) leaf) }
     ensures state { signing_of signer.new ≡ skip_state (signing_of signer.old) leaf }
 {
-    signer.skip(leaf).map_or_else(Answer::Refused, Answer::Next)
+    match signer.skip(leaf) {
+        Ok(next) => Answer::Next(next),
+        Err(refusal) => Answer::Refused(refusal),
+    }
 }
 
 /// Answers a call of a key in service.
-pub(crate) fn in_service<H: TreeHash, C: Code>(
-    heap: Global,
+pub(crate) fn in_service<'o, H: TreeHash, C: Code>(
     mut signer: Signer<H, C>,
-    call: &Call,
-) -> Result<(Session<H, C>, Answer), AllocError>
-    ensures answer { IfOk result (λ x. told x.1 ≡ reply (hash_of H.ChainHash H.TreeHash.own)
-        (code_of C.Code) (serving (signing_of signer)) (said call.now)) }
-    ensures state { IfOk result (λ x. state_of x.0 ≡ leaves (hash_of H.ChainHash H.TreeHash.own)
-        (code_of C.Code) (serving (signing_of signer)) (said call.now)) }
-    ensures lacking { OnErr result (Takes (said call.now)) }
+    call: &Call<'_>,
+    out: &'o mut [u8; MOST_ROOM],
+) -> (Session<H, C>, Answer<'o>)
+    ensures answer { told result.1 ≡ reply (hash_of H.ChainHash H.TreeHash.own) (code_of C.Code)
+        (serving (signing_of signer)) (said call.now) }
+    ensures state { state_of result.0 ≡ leaves (hash_of H.ChainHash H.TreeHash.own) (code_of C.Code)
+        (serving (signing_of signer)) (said call.now) }
 {
     let answer = match call {
-        Call::Key { room } => key(heap, &signer, *room)?,
-        Call::Sign { stamp, room } => sign(heap, &mut signer, stamp, *room)?,
+        Call::Key { room } => key(&signer, *room, out),
+        Call::Sign { stamp, room } => sign(&mut signer, stamp, *room, out),
         Call::Skip { leaf } => skip(&mut signer, *leaf),
-        Call::Retire => return Ok((Session::Retired(signer.retire()), Answer::Retired)),
-        Call::Trace { stamp, record } => trace(&signer, stamp, record.as_slice()),
+        Call::Retire => return (Session::Retired(signer.retire()), Answer::Retired),
+        Call::Trace { stamp, record } => trace(&signer, stamp, record),
         _ => Answer::NotNow,
     };
-    Ok((Session::Serving(signer), answer))
+    (Session::Serving(signer), answer)
 }

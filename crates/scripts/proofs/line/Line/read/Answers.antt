@@ -6,5 +6,5 @@ use Rattle.scripts.proofs.line.Line.read.Goals as goal
 pub returns-in_default-from_utf8 : goal.returns-in_default-from_utf8
 returns-in_default-from_utf8 c =
     let none : words_line c.args.text.now ≡ no_call =
-    no-words c.args.text.now (λ text. c.in_default-from_utf8.ensures.cases.0 (rw c.split_word.ensures.word text)) in
+    no-words c.args.text.now (λ text. c.in_default-from_utf8.ensures.cases.0 (rw c.split.ensures.word text)) in
     search rules

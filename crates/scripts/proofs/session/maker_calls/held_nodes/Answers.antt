@@ -1,22 +1,25 @@
-use Rattle.std.proofs.Common.{map, is_ok, vec_items, sym, ap, ◌∙◌}
-use Rattle.std.proofs.ResultArms.{chosen}
+use Rattle.std.proofs.Common.{◌≡◌, ◌<◌, ◌≤◌, length, length-set, replicate, take, None, refl, sym, ap, ◌∙◌, arith}
+use Rattle.std.proofs.lemmas.List.{take_all}
+use Rattle.std.specs.List.{flat_map}
 use Rattle.signer.specs.Views.{making_of}
-use Rattle.scripts.specs.Replies.{node_of, held_one}
-use Rattle.scripts.proofs.Nodes.{held_none, nodes-more, nodes-same}
+use Rattle.scripts.specs.Replies.{held_in, held_below}
+use Rattle.scripts.proofs.Nodes.{nodes-none, nodes-more}
 use Rattle.scripts.proofs.session.maker_calls.held_nodes.Goals as goal
-use Rattle.scripts.proofs.session.maker_calls.held_nodes.Goals.{in-Some+in_ok-push, in_default}
 
 pub loop-level-init : goal.loop-level-init
-loop-level-init g c = held_none (making_of c.args.maker.now) (vec_items c.new-nodes.result) c.new-nodes.ensures.items
+loop-level-init g c = (refl, nodes-none (making_of c.args.maker.now) (replicate 9 None))
 
 pub loop-level-preserved : goal.loop-level-preserved
 loop-level-preserved g c =
-    let m = making_of c.args.maker.now in
+    let short : c.loop-level.level < length c.loop-level.nodes = omega (arith, c.loop-level.invariant.0) in (
+      length-set c.loop-level.nodes c.loop-level.level c.held_node.result ∙ c.loop-level.invariant.0,
+      nodes-more (making_of c.args.maker.now) c.loop-level.level c.loop-level.nodes c.held_node.result short c.loop-level.invariant.1 c.held_node.ensures,
+    )
+
+pub returns : goal.returns
+returns g c =
     let n = c.loop-level.level in
-    let xs = vec_items c.loop-level.nodes in
-    elim c.match-held.branch [
-      | in-Some+in_ok-push w ↦
-          (let pushed = ap vec_items w.nodes-is ∙ chosen _ _ _ _ w.push.ensures.items (ap is_ok w.in_ok-push.was) in
-          nodes-more m n xs (vec_items c.match-held.nodes) _ c.loop-level.invariant pushed (ap (held_one n) (sym c.held.ensures.value ∙ w.in-Some.is)))
-      | in_default w ↦ ap (λ v. map node_of (vec_items v)) w.nodes-is ∙ nodes-same m n xs c.loop-level.invariant (ap (held_one n) (sym c.held.ensures.value ∙ w.in_default.is))
-    ]
+    let nodes = c.loop-level.nodes in
+    let long : length nodes ≤ n = omega (arith, c.loop-level.invariant.0) in
+    let last : n ≡ 9 = omega arith in
+    sym (ap (flat_map held_in) (take_all n nodes long)) ∙ (c.loop-level.invariant.1 ∙ ap (held_below (making_of c.args.maker.now)) last)

@@ -1,7 +1,7 @@
 use Rattle.std.proofs.Common.{◌+◌, Some, None, ap, ◌∙◌}
 use Rattle.std.proofs.lemmas.List.{take_rest}
 use Rattle.scripts.proofs.Texts.{word-cut}
-use Rattle.scripts.proofs.words.split_word.Goals as goal
+use Rattle.scripts.proofs.words.Words.split.Goals as goal
 
 pub returns-in-Some : goal.returns-in-Some
 returns-in-Some c =
