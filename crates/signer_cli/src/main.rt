@@ -1,4 +1,5 @@
-//! signer_cli: reads calls of a signer from standard input, a line for each, and prints a line of answer for each.
+//! signer_cli: reads calls of a signer from standard input, a line for each, and prints a line of answer for each. All its memory is
+//! taken before the first line is read.
 #![tactic(auto)]
 
 ghost use Rattle.std.specs.Prelude.{⊤};
@@ -6,125 +7,149 @@ ghost use Rattle.std.specs.Prelude.{⊤};
 use codes::Code;
 use hashes::TreeHash;
 use schemes::Task;
-use scripts::{Answer, Begin, Call, LONGEST, Line, Session, Start};
+use scripts::{Answer, Begin, Call, LONGEST, LONGEST_RECORD, Line, MOST_ROOM, Session, Start};
 use signer::Plan;
 use std::io::{BufRead, BufReader, Read, Stdin};
 
-type Input = BufReader<Stdin>;
-
-// What is to be done next.
-#[derive(Drop)]
-enum Next {
+// What a line asks for that is still to be done.
+#[derive(Clone, Copy)]
+enum Heard<'a> {
+    // Nothing is left to do.
+    Done,
     Begin(Begin, Start),
-    Call(Call),
+    Call(Call<'a>),
     End,
 }
 
-// Reads a line, without its end; of one that is too long, only so much that it shows. Answers whether there was one.
-fn read_line(input: &mut Input, line: &mut Vec<u8>) -> anyhow::Result<bool> {
-    line.clear();
-    if input
-        .by_ref()
-        .take(LONGEST as u64 + 1)
-        .read_until(b'\n', line)?
-        == 0
-    {
-        return Ok(false);
-    }
-    if line.pop_if(|byte| *byte == b'\n').is_none() {
-        input.skip_until(b'\n')?;
-    }
-    Ok(true)
+// Standard input, and where its lines and their records are kept.
+#[derive(Drop)]
+struct Console<'r> {
+    rt: &'r HostRuntime,
+    input: BufReader<Stdin>,
+    line: Vec<u8>,
+    record: [u8; LONGEST_RECORD],
 }
 
-// What a line asks for. Answers one that is no call, and a begin that is refused.
-fn heard(rt: &HostRuntime, line: &[u8]) -> anyhow::Result<Option<Next>> {
-    match Line::read(rt.alloc(), line)? {
-        Line::Silent => Ok(None),
-        Line::NoCall => {
-            println!(rt; "{}", Answer::NotACall)?;
-            Ok(None)
+impl<'r> Console<'r> {
+    fn new(rt: &'r HostRuntime) -> anyhow::Result<Console<'r>> {
+        Ok(Console {
+            rt,
+            input: BufReader::new(rt.alloc(), rt.stdin())?,
+            // A line with its end, or so much of a longer one that it shows.
+            line: Vec::with_capacity(rt.alloc(), LONGEST + 1)?,
+            record: [0; LONGEST_RECORD],
+        })
+    }
+
+    // Reads a line, without its end; of one that is too long, only so much that it shows. Answers whether there was one.
+    fn read_line(&mut self) -> anyhow::Result<bool> {
+        self.line.clear();
+        if self
+            .input
+            .by_ref()
+            .take(LONGEST as u64 + 1)
+            .read_until(b'\n', &mut self.line)?
+            == 0
+        {
+            return Ok(false);
         }
-        Line::Begin(begin) => match begin.start() {
-            Ok(start) => Ok(Some(Next::Begin(begin, start))),
-            Err(refusal) => {
-                println!(rt; "{}", Answer::Refused(refusal))?;
-                Ok(None)
+        if self.line.pop_if(|byte| *byte == b'\n').is_none() {
+            self.input.skip_until(b'\n')?;
+        }
+        Ok(true)
+    }
+
+    // Reads a line. Answers one that is no call, and a begin that begins no key.
+    fn hear(&mut self) -> anyhow::Result<Heard<'_>> {
+        if !self.read_line()? {
+            return Ok(Heard::End);
+        }
+        match Line::read(self.line.as_slice(), &mut self.record) {
+            Line::Silent => Ok(Heard::Done),
+            Line::NoCall => {
+                println!(self.rt; "{}", Answer::NotACall)?;
+                Ok(Heard::Done)
             }
-        },
-        Line::Call(call) => Ok(Some(Next::Call(call))),
+            Line::Begin(begin) => match begin.start() {
+                Ok(start) => Ok(Heard::Begin(begin, start)),
+                Err(not_begun) => {
+                    println!(self.rt; "{}", Answer::from(not_begun))?;
+                    Ok(Heard::Done)
+                }
+            },
+            Line::Call(call) => Ok(Heard::Call(call)),
+        }
     }
-}
 
-// Reads lines up to the next call or begin that is not refused.
-fn listen(rt: &HostRuntime, input: &mut Input) -> anyhow::Result<Next> {
-    let mut line = Vec::new(rt.alloc());
-    for _ in 0..u64::MAX {
-        if !read_line(input, &mut line)? {
-            return Ok(Next::End);
+    // Reads lines up to the first begin that begins a key. Before it no call is answered.
+    fn first_begin(&mut self) -> anyhow::Result<Option<(Begin, Start)>> {
+        let rt = self.rt;
+        for _ in 0..u64::MAX {
+            match self.hear()? {
+                Heard::Done => {}
+                Heard::Begin(begin, start) => return Ok(Some((begin, start))),
+                Heard::Call(_) => println!(rt; "{}", Answer::NotNow)?,
+                Heard::End => return Ok(None),
+            }
         }
-        if let Some(next) = heard(rt, line.as_slice())? {
-            return Ok(next);
-        }
+        Ok(None)
     }
-    Ok(Next::End)
 }
 
 // Serves a key up to the next begin, or to the end.
 #[derive(Drop)]
-struct Serve<'a, 'i> {
-    rt: &'a HostRuntime,
-    input: &'i mut Input,
+struct Serve<'a, 'r> {
+    console: &'a mut Console<'r>,
+    out: &'a mut [u8; MOST_ROOM],
     begin: &'a Begin,
     plan: Plan,
 }
 
 impl Task for Serve<'_, '_> {
-    type Output = anyhow::Result<Next>;
+    type Output = anyhow::Result<Option<(Begin, Start)>>;
 
     // What is read and printed is not said.
     ghost gives = { λ _ _ _ _ _. ⊤ };
 
-    fn run<H: TreeHash, C: Code>(&mut self) -> anyhow::Result<Next> {
+    fn run<H: TreeHash, C: Code>(&mut self) -> anyhow::Result<Option<(Begin, Start)>> {
+        let rt = self.console.rt;
         let mut session = Session::<H, C>::begin(self.plan, self.begin);
         let begun = Answer::Begun {
             hash: self.begin.hash,
             code: self.begin.code,
             height: self.begin.height,
         };
-        println!(self.rt; "{begun}")?;
+        println!(rt; "{begun}")?;
         for _ in 0..u64::MAX {
-            match listen(self.rt, self.input)? {
-                Next::Call(call) => {
-                    let (after, answer) = session.answer(self.rt.alloc(), &call)?;
+            match self.console.hear()? {
+                Heard::Done => {}
+                Heard::Begin(begin, start) => return Ok(Some((begin, start))),
+                Heard::Call(call) => {
+                    let (after, answer) = session.answer(&call, self.out);
                     session = after;
-                    println!(self.rt; "{answer}")?;
+                    println!(rt; "{answer}")?;
                 }
-                next => return Ok(next),
+                Heard::End => return Ok(None),
             }
         }
-        Ok(Next::End)
+        Ok(None)
     }
 }
 
 fn main(rt: HostRuntime) -> anyhow::Result<()> {
-    let mut input = BufReader::new(rt.alloc(), rt.stdin())?;
-    let mut next = listen(&rt, &mut input)?;
+    let mut console = Console::new(&rt)?;
+    let mut out = [0; MOST_ROOM];
+    let mut next = console.first_begin()?;
     for _ in 0..u64::MAX {
-        next = match next {
-            Next::Begin(begin, start) => start.scheme.run(&mut Serve {
-                rt: &rt,
-                input: &mut input,
-                begin: &begin,
-                plan: start.plan,
-            })?,
-            // Before the first begin no call is answered.
-            Next::Call(_) => {
-                println!(rt; "{}", Answer::NotNow)?;
-                listen(&rt, &mut input)?
-            }
-            Next::End => return Ok(()),
+        let Some((begin, start)) = next else {
+            return Ok(());
         };
+        next = start.scheme.run(&mut Serve {
+            console: &mut console,
+            out: &mut out,
+            begin: &begin,
+            plan: start.plan,
+        })?;
     }
     Ok(())
 }
