@@ -7,7 +7,8 @@ use Rattle.scripts.specs.Digits.{number_rule}
 use Rattle.scripts.specs.Hex.{hex_bytes}
 use Rattle.scripts.specs.Words.{and_then, string_word}
 use Rattle.scripts.specs.declared.call.Call.{Call}
-use Rattle.scripts.specs.declared.call.Call.TheVariants.{Grow, Nodes, Finish, Key, Sign, Skip, Retire, Trace}
+use Rattle.scripts.specs.declared.call.Call.TheVariants.{Grow, Nodes, Finish, Key, Sign}
+use Rattle.scripts.specs.declared.call.Call.TheVariants.{Skip, Retire, Trace}
 
 -- a call of a script, with what it is given
 pub data Said : Type 0 where
@@ -56,7 +57,9 @@ record_rule text =
     if length text == 0 then None else hex_bytes text
 
 abbrev pub read_trace : Option (List ℕ) → Option Said
-read_trace rest = and_then (string_word rest) (λ w. and_then w.rest (λ t. option_map (trace w.word) (record_rule t)))
+read_trace rest =
+    and_then (string_word rest)
+    (λ w. and_then w.rest (λ t. option_map (trace w.word) (record_rule t)))
 
 abbrev pub read_call : List ℕ → Option (List ℕ) → Option Said
 read_call name rest =

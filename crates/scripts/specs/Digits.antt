@@ -5,7 +5,8 @@ use Rattle.std.specs.Prelude.{ℕ, ◌+◌, ◌-◌, ◌*◌, if◌then◌else�
 -- the number that the digits of n, and then those of a text, name
 abbrev pub number_from : ℕ → List ℕ → Option ℕ
 number_from n [] = Some n
-number_from n (c ∷ rest) = if nat_le 48 c && nat_le c 57 then number_from (10 * n + (c - 48)) rest else None
+number_from n (c ∷ rest) =
+    if nat_le 48 c && nat_le c 57 then number_from (10 * n + (c - 48)) rest else None
 
 abbrev pub at_most : ℕ → Option ℕ → Option ℕ
 at_most most (Some n) = if nat_le n most then Some n else None

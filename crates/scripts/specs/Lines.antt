@@ -38,7 +38,16 @@ read_begin text =
     (λ key.
     and_then key.rest
     (λ t.
-    option_map (λ masks. record { hash = hash.word; code = code.word; height = height.word; seed = seed.word; hash_key = key.word; masks = masks }) (hex_of 512 t)))))))
+    option_map
+    (λ masks. record {
+      hash = hash.word;
+      code = code.word;
+      height = height.word;
+      seed = seed.word;
+      hash_key = key.word;
+      masks = masks;
+    })
+    (hex_of 512 t)))))))
 
 abbrev pub begin_line : Option Begin → Meant
 begin_line (Some b) = begins b
@@ -54,7 +63,8 @@ words_line text =
     if bytes_eq (word_of text) (codes "begin") then begin_line (read_begin (after_word text))
     else call_line (read_call (word_of text) (after_word text))
 
--- nothing to answer where it is empty or begins with #; no call where it is longer than 65,536 bytes
+-- nothing to answer where it is empty or begins with #;
+-- no call where it is longer than 65,536 bytes
 abbrev pub line_rule : List ℕ → Meant
 line_rule text =
     if length text == 0 || slice_index text 0 == 35 then nothing else

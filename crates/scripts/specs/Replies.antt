@@ -13,7 +13,9 @@ use Rattle.tree.specs.Meaning.{Hash, Code}
 use Rattle.verifier.specs.declared.refusal.Refusal.{Refusal}
 use Rattle.scripts.specs.Calls.{Said, grow, nodes, finish, key, sign, skip, retire, trace}
 use Rattle.scripts.specs.declared.answer.Answer.{Answer}
-use Rattle.scripts.specs.declared.answer.Answer.TheVariants.{Begun, Grown, Nodes, Finished, Key, Signed, Next, Retired, Verdict, Refused, UnknownScheme, NotNow, NotACall}
+use Rattle.scripts.specs.declared.answer.Answer.TheVariants.{Begun, Grown, Nodes, Finished, Key, Signed, Next}
+use Rattle.scripts.specs.declared.answer.Answer.TheVariants.{Retired, Verdict, Refused}
+use Rattle.scripts.specs.declared.answer.Answer.TheVariants.{UnknownScheme, NotNow, NotACall}
 use Rattle.scripts.specs.declared.answer.Node.{Node}
 use Rattle.scripts.specs.declared.begin.NotBegun.{NotBegun}
 use Rattle.scripts.specs.declared.begin.NotBegun.TheVariants as not_begun
@@ -94,15 +96,22 @@ output room = replicate room 0
 
 module _ (hash : Hash) (code : Code) where
   abbrev pub key_reply : Signing → ℕ → Told
-  key_reply s room = answered (λ n. keyed (take n (signer_rules.key_output hash code s (output room)))) (signer_rules.key_answer code s (output room))
+  key_reply s room =
+      answered
+      (λ n. keyed (take n (signer_rules.key_output hash code s (output room))))
+      (signer_rules.key_answer code s (output room))
 
   abbrev pub sign_reply : Signing → List ℕ → ℕ → Told
   sign_reply s stamp room =
-      answered (λ x. signed x.1 (take x.0 (signer_rules.sign_output hash code s stamp (output room)))) (signer_rules.sign_answer code s (output room))
+      answered
+      (λ x. signed x.1 (take x.0 (signer_rules.sign_output hash code s stamp (output room))))
+      (signer_rules.sign_answer code s (output room))
 
   abbrev pub trace_reply : Signing → List ℕ → List ℕ → Told
   trace_reply s stamp bytes =
-      answered (λ x. verdict x (signer_rules.trace_report hash code s stamp bytes (output 64))) (signer_rules.trace_answer hash code s stamp bytes)
+      answered
+      (λ x. verdict x (signer_rules.trace_report hash code s stamp bytes (output 64)))
+      (signer_rules.trace_answer hash code s stamp bytes)
 
   -- the answer to a call, in each state
   abbrev pub reply : State → Said → Told
@@ -145,7 +154,8 @@ module _ (hash : Hash) (code : Code) where
   leaves (serving s) nodes = serving s
   leaves (serving s) finish = serving s
   leaves (serving s) (key room) = serving s
-  leaves (serving s) (sign stamp room) = serving (signer_rules.sign_state code s stamp (output room))
+  leaves (serving s) (sign stamp room) =
+      serving (signer_rules.sign_state code s stamp (output room))
   leaves (serving s) (skip leaf) = serving (signer_rules.skip_state s leaf)
   leaves (serving s) retire = retired s
   leaves (serving s) (trace stamp bytes) = serving s
@@ -158,7 +168,8 @@ module _ (hash : Hash) (code : Code) where
   leaves (retired s) retire = retired s
   leaves (retired s) (trace stamp bytes) = retired s
 
-abbrev pub state_of : {H C : Type 0} {tree : tree_hash.Ghosts H} {chain : chain_hash.Ghosts H} {code : code_trait.Ghosts C} → Session H C tree chain code → State
-state_of (session.Growing m) = growing (making_of m)
-state_of (session.Serving s) = serving (signing_of s)
-state_of (session.Retired r) = retired (signing_of r.signer)
+module _ {H C : Type 0} {tree : tree_hash.Ghosts H} {chain : chain_hash.Ghosts H} where
+  abbrev pub state_of : {code : code_trait.Ghosts C} → Session H C tree chain code → State
+  state_of (session.Growing m) = growing (making_of m)
+  state_of (session.Serving s) = serving (signing_of s)
+  state_of (session.Retired r) = retired (signing_of r.signer)

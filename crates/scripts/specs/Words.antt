@@ -27,11 +27,15 @@ pub record Read (A : Type 0) : Type 0 where
 
 -- a first word that is a number of at most 255
 abbrev pub byte_word : Option (List ℕ) → Option (Read ℕ)
-byte_word text = and_then text (λ t. option_map (λ n. record { word = n; rest = after_word t }) (number_rule 255 (word_of t)))
+byte_word text =
+    and_then text
+    (λ t. option_map (λ n. record { word = n; rest = after_word t }) (number_rule 255 (word_of t)))
 
 -- a first word that is 16 bytes as hex digits
 abbrev pub string_word : Option (List ℕ) → Option (Read (List ℕ))
-string_word text = and_then text (λ t. option_map (λ s. record { word = s; rest = after_word t }) (hex_of 16 (word_of t)))
+string_word text =
+    and_then text
+    (λ t. option_map (λ s. record { word = s; rest = after_word t }) (hex_of 16 (word_of t)))
 
 -- what is left of a line
 abbrev pub left_of : Words → Option (List ℕ)

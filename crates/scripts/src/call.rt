@@ -9,6 +9,9 @@ use crate::digits::number;
 use crate::words::Words;
 use crate::{LONGEST_RECORD, MOST_ROOM, Room, hex};
 
+// The output's size where none is given: as much as any record takes.
+const ROOM: u32 = 4_232;
+
 /// A call, with what it is given.
 #[derive(Clone, Copy)]
 pub enum Call<'a> {
@@ -34,8 +37,7 @@ fn read_room(words: Words<'_>) -> Option<Room>
     ensures { option_map (λ room. room.bytes) result ≡ room_rule (left_of words.entry) }
 {
     match words.text {
-        // As much as any record takes.
-        None => Some(Room { bytes: 4_232 }),
+        None => Some(Room { bytes: ROOM }),
         Some(text) => {
             let bytes = number(text, MOST_ROOM as u32)?;
             Some(Room { bytes })
