@@ -1,3 +1,4 @@
 pub mod Filled
 pub mod Listed
+pub mod Refusing
 pub mod Reported

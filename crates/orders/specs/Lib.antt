@@ -1,3 +1,4 @@
+pub mod Conditions
 pub mod Openings
 pub mod Outcomes
 pub mod Reports

@@ -9,9 +9,11 @@ use Rattle.verifier.specs.declared.refusal.Refusal.{Refusal}
 use Rattle.orders.specs.declared.key.KeySummary.{KeySummary}
 
 -- the key that open answers, and its numbers and height; or its refusal
-abbrev pub Opens : Hash → Code → Result Key Refusal → Result (OpenedKey × KeySummary) Refusal → Type 0
+abbrev pub Opens : Hash → Code → Result Key Refusal → Result (OpenedKey × KeySummary) Refusal →
+    Type 0
 Opens hash code (Ok key) (Ok opened) =
-    (key_of opened.0 ≡ key) × (opened.1 ≡ record { hash = hash.number; code = code.number; height = key.height })
+    (key_of opened.0 ≡ key)
+    × (opened.1 ≡ record { hash = hash.number; code = code.number; height = key.height })
 Opens hash code (Ok key) (Err e) = ⊥
 Opens hash code (Err e) (Ok opened) = ⊥
 Opens hash code (Err e) (Err f) = f ≡ e

@@ -29,12 +29,14 @@ pub data Outcomes (verify : List ℕ → List ℕ → Result ℕ Refusal) : List
   order : {bytes : List ℕ} {answers : List (Result ℕ Refusal)} → 16 ≤ length bytes → Outcomes verify (after_record (drop 16 bytes)) answers → Outcomes verify bytes (verify (take 16 bytes) (first_record (drop 16 bytes)) ∷ answers)
 
 -- the same as a list worked out, of `most` orders at most
-unfoldable pub first_answers : (List ℕ → List ℕ → Result ℕ Refusal) → ℕ → List ℕ → List (Result ℕ Refusal)
+unfoldable pub first_answers : (List ℕ → List ℕ → Result ℕ Refusal) → ℕ → List ℕ →
+    List (Result ℕ Refusal)
 first_answers verify zero bytes = []
 first_answers verify (suc most) bytes =
     if length bytes == 0 then [] else
     if nat_lt (length bytes) 16 then Err Length ∷ [] else
-    verify (take 16 bytes) (first_record (drop 16 bytes)) ∷ first_answers verify most (after_record (drop 16 bytes))
+    verify (take 16 bytes) (first_record (drop 16 bytes))
+    ∷ first_answers verify most (after_record (drop 16 bytes))
 
 -- the list that Outcomes relates to the bytes: an order has a byte at least
 abbrev pub answers_to : (List ℕ → List ℕ → Result ℕ Refusal) → List ℕ → List (Result ℕ Refusal)

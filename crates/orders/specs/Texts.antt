@@ -19,7 +19,8 @@ refused_text e = codes " refused " ++ decimal (refusal_number e)
 
 -- `HASH CODE HEIGHT`
 abbrev pub summary_text : KeySummary → List ℕ
-summary_text key = decimal key.hash ++ codes " " ++ decimal key.code ++ codes " " ++ decimal key.height
+summary_text key =
+    decimal key.hash ++ codes " " ++ decimal key.code ++ codes " " ++ decimal key.height
 
 -- `key HASH CODE HEIGHT`, or `key refused N`
 abbrev pub key_text : Result KeySummary Refusal → List ℕ
@@ -38,7 +39,8 @@ order_text order = codes "order " ++ decimal order.number ++ outcome_text order.
 -- the orders with these outcomes, the first of them with this number
 unfoldable pub numbered : ℕ → List (Result ℕ Refusal) → List Order
 numbered n [] = []
-numbered n (outcome ∷ outcomes) = record { number = n; outcome = outcome } ∷ numbered (suc n) outcomes
+numbered n (outcome ∷ outcomes) =
+    record { number = n; outcome = outcome } ∷ numbered (suc n) outcomes
 
 -- a line for each order
 abbrev pub order_lines : List Order → List ℕ

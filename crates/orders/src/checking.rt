@@ -3,6 +3,7 @@
 ghost use Rattle.std.specs.Prelude.{◌≡◌, ◌≢◌, ℕ, ◌<◌, List, length, take, drop, IfOk, IfErr, IfSome, OnOk, OnErr, Some};
 ghost use Rattle.std.specs.Io.KnownBytes.{Consumes};
 ghost use Rattle.std.specs.IoError.{error_kind};
+ghost use Rattle.orders.specs.Conditions.{RefusesByLists};
 ghost use Rattle.orders.specs.Reports.{Reported, CheckedBy, Unknown, Reports, most_read};
 ghost use Rattle.orders.specs.Views.{reported};
 ghost use Rattle.verifier.specs.Rules.{header_rule};
@@ -72,6 +73,7 @@ fn unknown(key: &[u8]) -> Report<'_>
 fn check_bytes(input: &[u8]) -> Report<'_>
     ensures report { Reports input.now (reported result) }
     ensures only { (other : Reported) → Reports input.now other → other ≡ reported result }
+    ensures refused { RefusesByLists input.now (reported result) }
 {
     let (key, orders) = split_record(input);
     let hash = byte_at(key, layout::HASH_NUMBER);
@@ -88,6 +90,8 @@ fn check_bytes(input: &[u8]) -> Report<'_>
 pub fn check<'a, R: Read>(input: &mut R, room: &'a mut [u8; LIMIT]) -> io::Result<Report<'a>>
     ensures report { IfOk result (λ report. IfSome (R.remaining input.old)
         (λ bytes. Reports (take most_read bytes) (reported report))) }
+    ensures refused { IfOk result (λ report. IfSome (R.remaining input.old)
+        (λ bytes. RefusesByLists (take most_read bytes) (reported report))) }
     ensures unread { OnOk result (IfSome (R.remaining input.old)
         (λ bytes. R.remaining input.new ≡ Some (drop most_read bytes))) }
     ensures failed { OnErr result ((bs : List ℕ) × (length bs < most_read)

@@ -18,8 +18,8 @@ pub enum Report<'a> {
 
 // A line for each order.
 fn write_orders<W: fmt::Write>(orders: Orders<'_>, f: &mut fmt::Formatter<W>) -> fmt::Result
-    ensures { DisplaysOnOk W.write_str_gives f.old result (Some (order_lines (orders_left orders.entry)))
-        f.new }
+    ensures { DisplaysOnOk W.write_str_gives f.old result
+        (Some (order_lines (orders_left orders.entry))) f.new }
 {
     for order in orders {
         writeln!(f, "{order}")?;
