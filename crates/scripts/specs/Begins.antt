@@ -5,6 +5,7 @@ use Rattle.histories.specs.Rules.{plan_rule}
 use Rattle.schemes.specs.Names.{scheme_numbered}
 use Rattle.schemes.specs.declared.scheme.Scheme.{Scheme}
 use Rattle.schemes.specs.declared.unknown.UnknownScheme as unknown
+use Rattle.signer.specs.Views.{height_of_plan}
 use Rattle.verifier.specs.declared.refusal.Refusal.{Refusal}
 use Rattle.scripts.specs.declared.begin.NotBegun.{NotBegun}
 use Rattle.scripts.specs.declared.begin.NotBegun.TheVariants.{Refused, UnknownScheme}
@@ -16,7 +17,7 @@ pub record Named : Type 0 where
   pub scheme : Scheme
 
 abbrev pub start_of : Start → Named
-start_of s = record { height = s.plan.height; scheme = s.scheme }
+start_of s = record { height = height_of_plan s.plan; scheme = s.scheme }
 
 -- a plan is asked for first, and then a hash and a code
 abbrev pub planned : Result ℕ Refusal → Result Scheme unknown.UnknownScheme → Result Named NotBegun

@@ -8,7 +8,7 @@ use Rattle.hashes.specs.declared.TreeHash as tree_hash
 use Rattle.histories.specs.Histories.{State, growing, serving, retired}
 use Rattle.histories.specs.Rules as signer_rules
 use Rattle.histories.specs.States.{Making, Signing}
-use Rattle.signer.specs.Views.{making_of, signing_of}
+use Rattle.signer.specs.Views.{making_of, signing_of, signing_of_retired}
 use Rattle.tree.specs.Meaning.{Hash, Code}
 use Rattle.verifier.specs.declared.refusal.Refusal.{Refusal}
 use Rattle.scripts.specs.Calls.{Said, grow, nodes, finish, key, sign, skip, retire, trace}
@@ -172,4 +172,4 @@ module _ {H C : Type 0} {tree : tree_hash.Ghosts H} {chain : chain_hash.Ghosts H
   abbrev pub state_of : {code : code_trait.Ghosts C} → Session H C tree chain code → State
   state_of (session.Growing m) = growing (making_of m)
   state_of (session.Serving s) = serving (signing_of s)
-  state_of (session.Retired r) = retired (signing_of r.signer)
+  state_of (session.Retired r) = retired (signing_of_retired r)

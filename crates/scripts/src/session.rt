@@ -5,6 +5,7 @@ ghost use Rattle.histories.specs.Histories.{growing};
 ghost use Rattle.histories.specs.Rules.{begin_rule};
 ghost use Rattle.scripts.specs.Calls.{said};
 ghost use Rattle.scripts.specs.Replies.{told, state_of, reply, leaves};
+ghost use Rattle.signer.specs.Views.{height_of_plan};
 ghost use Rattle.tree.specs.Meaning.{hash_of, code_of};
 
 use crate::session::maker_calls::while_growing;
@@ -37,7 +38,7 @@ impl<H: TreeHash, C: Code> Session<H, C> {
               seed = begin.now.seed;
               hash_key = begin.now.hash_key;
               masks = begin.now.masks;
-              height = plan.height;
+              height = height_of_plan plan;
             })) }
     {
         Session::Growing(Maker::begin(plan, begin.seed, begin.hash_key, begin.masks))

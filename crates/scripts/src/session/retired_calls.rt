@@ -4,7 +4,7 @@ ghost use Rattle.std.specs.Prelude.{◌≡◌};
 ghost use Rattle.histories.specs.Histories.{retired};
 ghost use Rattle.scripts.specs.Calls.{said};
 ghost use Rattle.scripts.specs.Replies.{told, state_of, reply, leaves};
-ghost use Rattle.signer.specs.Views.{signing_of};
+ghost use Rattle.signer.specs.Views.{signing_of_retired};
 ghost use Rattle.tree.specs.Meaning.{hash_of, code_of};
 
 use crate::session::unchanged::{key, trace};
@@ -20,9 +20,9 @@ pub(crate) fn out_of_service<'o, H: TreeHash, C: Code>(
     out: &'o mut [u8; MOST_ROOM],
 ) -> (Session<H, C>, Answer<'o>)
     ensures answer { told result.1 ≡ reply (hash_of H.ChainHash H.TreeHash.own) (code_of C.Code)
-        (retired (signing_of signer.signer)) (said call.now) }
+        (retired (signing_of_retired signer)) (said call.now) }
     ensures state { state_of result.0 ≡ leaves (hash_of H.ChainHash H.TreeHash.own) (code_of C.Code)
-        (retired (signing_of signer.signer)) (said call.now) }
+        (retired (signing_of_retired signer)) (said call.now) }
 {
     let answer = match call {
         Call::Key { room } => key(&signer, *room, out),
