@@ -1,6 +1,7 @@
 -- What is promised of every history that leads to a signer, in service or retired, that traces a record.
 -- Assumes nothing.
-use Rattle.std.specs.Prelude.{◌≡◌, ℕ, ◌<◌, ◌≤◌, ◌⊎◌, List, ◌∷◌, ◌++◌, take, drop, replicate, Ok, Result, ◌≢◌}
+use Rattle.std.specs.Prelude.{◌≡◌, ◌≢◌, ℕ, ◌<◌, ◌≤◌, ◌⊎◌, List, ◌∷◌, ◌++◌, take, drop}
+use Rattle.std.specs.Prelude.{replicate, Ok, Result}
 use Rattle.compare.specs.Found.{Found, verdict_numbers, verdict_report}
 use Rattle.compare.specs.declared.verdict.Verdict.{Verdict}
 use Rattle.growth.specs.Grown.{chain_string}
@@ -28,7 +29,7 @@ Revealed code w i k e =
 abbrev pub VerdictOurs : Result (ℕ × ℕ × ℕ) Refusal → Type 0
 VerdictOurs r = (x : ℕ) × (y : ℕ) × (r ≡ Ok (0, x, y))
 
--- trace says that the record is ours, as leaf i: it answers 0, i and 0, and leaves a report of zeros
+-- trace says that the record is ours, as leaf i: it answers 0, i and 0, and the report is zeros
 abbrev pub SaysOurs : ℕ → Result (ℕ × ℕ × ℕ) Refusal → List ℕ → Type 0
 SaysOurs i r report = (r ≡ Ok (0, i, 0)) × (report ≡ replicate 64 0)
 
@@ -50,8 +51,9 @@ pub record Promise (hash : Hash) (code : Code) (w : History) (s : Signing) (stam
   pub once : Once w
   -- verify accepts each record issued, with its stamp, as the leaf it was issued for
   pub accepted : (i : ℕ) (issued m : List ℕ) → Issued w i issued m → Accepts hash code s m issued i
-  -- of a record and a stamp that verify accepts as leaf i, the verdict is 0 exactly when the history issued this record as leaf i
-  -- for this stamp, and then trace says "ours": it answers 0, i and 0, and leaves a report of zeros
+  -- of a record and a stamp that verify accepts as leaf i, the verdict is 0 exactly when the
+  -- history issued this record as leaf i for this stamp, and then trace says "ours": it answers
+  -- 0, i and 0, and leaves a report of zeros
   pub ours : (i : ℕ) → Accepts hash code s stamp bytes i → VerdictOurs r →
       Issued w i bytes stamp × SaysOurs i r report
   pub issued : (i : ℕ) → Issued w i bytes stamp → SaysOurs i r report

@@ -1,9 +1,11 @@
 -- What a key record and an order are refused for: each condition, and both lists in their order.
 -- Assumes nothing.
-use Rattle.std.specs.Prelude.{◌≡◌, ℕ, ◌<◌, ◌≢◌, ◌⊎◌, List, [], ◌∷◌, ◌++◌, length, take, drop, Ok, Result}
+use Rattle.std.specs.Prelude.{◌≡◌, ◌≢◌, ℕ, ◌<◌, ◌⊎◌, List, [], ◌∷◌, ◌++◌}
+use Rattle.std.specs.Prelude.{length, take, drop, Ok, Result}
 use Rattle.tree.specs.Meaning.{Hash, Code}
 use Rattle.verifier.specs.Causes.{Cause, cause, Refuses}
-use Rattle.verifier.specs.Conditions.{WrongHeight, WrongKeyLength, Opening, header_causes, verify_causes}
+use Rattle.verifier.specs.Conditions.{WrongHeight, WrongKeyLength, Opening}
+use Rattle.verifier.specs.Conditions.{header_causes, verify_causes}
 use Rattle.verifier.specs.Keys.{Key}
 use Rattle.verifier.specs.Records.{hash_number_of, code_number_of}
 use Rattle.verifier.specs.Rules.{open_rule}

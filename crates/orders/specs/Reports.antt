@@ -1,6 +1,7 @@
 -- What is reported of a key record and the orders that follow it.
 -- Assumes nothing.
-use Rattle.std.specs.Prelude.{◌≡◌, ℕ, List, [], Ok, Err, Result}
+use Rattle.std.specs.Prelude.{◌≡◌, ℕ, ◌<◌, ◌≤◌, List, [], length, Ok, Err, Option, Result}
+use Rattle.std.specs.Io.KnownBytes.{Consumes, IsAtEnd}
 use Rattle.tree.specs.Meaning.{Hash, Code}
 use Rattle.verifier.specs.Keys.{Key}
 use Rattle.verifier.specs.Records.{hash_number_of, code_number_of}
@@ -51,3 +52,9 @@ Reports input report =
 -- as much of an input as is read, in bytes
 abbrev pub most_read : ℕ
 most_read = 65536
+
+-- a reader gave these bytes, of those that it had left: as many as are read, or fewer at its end
+pub record ReadFirst (old new : Option (List ℕ)) (bytes : List ℕ) : Type 0 where
+  pub within : length bytes ≤ most_read
+  pub taken : Consumes old new bytes
+  pub ended : length bytes < most_read → IsAtEnd new

@@ -4,7 +4,7 @@ ghost use Rattle.std.specs.Prelude.{◌≡◌, ◌≢◌, ℕ, ◌<◌, List, le
 ghost use Rattle.std.specs.Io.KnownBytes.{Consumes};
 ghost use Rattle.std.specs.IoError.{error_kind};
 ghost use Rattle.orders.specs.Conditions.{RefusesByLists};
-ghost use Rattle.orders.specs.Reports.{Reported, CheckedBy, Unknown, Reports, most_read};
+ghost use Rattle.orders.specs.Reports.{Reported, CheckedBy, Unknown, ReadFirst, Reports, most_read};
 ghost use Rattle.orders.specs.Views.{reported};
 ghost use Rattle.verifier.specs.Rules.{header_rule};
 
@@ -69,8 +69,9 @@ fn unknown(key: &[u8]) -> Report<'_>
     }
 }
 
-// The report of a key record and the orders that follow it, by the hash and code that the key record names.
-fn check_bytes(input: &[u8]) -> Report<'_>
+/// The report of a key record and the orders that follow it, by the hash and code that the key record names: of all bytes that it
+/// is given. It refuses nothing and cannot fail.
+pub fn report_of(input: &[u8]) -> Report<'_>
     ensures report { Reports input.now (reported result) }
     ensures only { (other : Reported) → Reports input.now other → other ≡ reported result }
     ensures refused { RefusesByLists input.now (reported result) }
@@ -88,6 +89,9 @@ fn check_bytes(input: &[u8]) -> Report<'_>
 /// is left unread. Checks them by the hash and code that the key record names. An error is one of reading, before 65,536 bytes
 /// were read; a read that was interrupted is tried again.
 pub fn check<'a, R: Read>(input: &mut R, room: &'a mut [u8; LIMIT]) -> io::Result<Report<'a>>
+    ensures read { IfOk result (λ report. (bytes : List ℕ)
+        × ReadFirst (R.remaining input.old) (R.remaining input.new) bytes
+        × Reports bytes (reported report)) }
     ensures report { IfOk result (λ report. IfSome (R.remaining input.old)
         (λ bytes. Reports (take most_read bytes) (reported report))) }
     ensures refused { IfOk result (λ report. IfSome (R.remaining input.old)
@@ -99,5 +103,5 @@ pub fn check<'a, R: Read>(input: &mut R, room: &'a mut [u8; LIMIT]) -> io::Resul
     ensures retried { IfErr result (λ e. error_kind e ≢ ErrorKind.Interrupted) }
 {
     let filled = fill(input, room.as_mut_slice())?;
-    Ok(check_bytes(&room[..filled]))
+    Ok(report_of(&room[..filled]))
 }

@@ -9,7 +9,7 @@ mod records;
 mod report;
 mod tour;
 
-pub use checking::check;
+pub use checking::{check, report_of};
 pub use key::KeySummary;
 pub use order::Order;
 pub use reading::LIMIT;

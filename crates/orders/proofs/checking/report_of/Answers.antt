@@ -3,7 +3,7 @@ use Rattle.orders.specs.Reports.{Reports}
 use Rattle.orders.specs.Views.{reported}
 use Rattle.orders.proofs.Refusing.{refuses-by-lists}
 use Rattle.orders.proofs.Reported.{reports-only}
-use Rattle.orders.proofs.checking.check_bytes.Goals as goal
+use Rattle.orders.proofs.checking.report_of.Goals as goal
 
 pub returns-in-Ok : goal.returns-in-Ok
 returns-in-Ok c =
