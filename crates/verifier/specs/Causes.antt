@@ -27,8 +27,8 @@ abbrev pub RefusedWith : {A : Type 0} → ℕ → Result A Refusal → Type 0
 RefusedWith n (Ok x) = ⊥
 RefusedWith n (Err e) = refusal_number e ≡ n
 
--- the answer r is the refusal with number n exactly when the condition of n holds and none before it in the list,
--- and is no refusal exactly when none holds
+-- the answer r is the refusal with number n exactly when the condition of n holds and none before
+-- it in the list does, and is no refusal exactly when none holds
 pub record Refuses {A : Type 0} (causes : List Cause) (r : Result A Refusal) : Type 0 where
   pub refused : (n : ℕ) → RefusedWith n r ↔ First causes n
   pub answered : IsOk r ↔ NoCause causes

@@ -4,8 +4,9 @@ use Rattle.std.specs.Prelude.{◌≡◌, ℕ, ◌^◌, ◌<◌, ◌≤◌, ◌�
 use Rattle.tree.specs.Meaning.{Hash, Code}
 use Rattle.verifier.specs.Causes.{Cause, cause}
 use Rattle.verifier.specs.Keys.{Key}
-use Rattle.verifier.specs.Records.{field, key_length, release_length, hash_number_of, code_number_of}
-use Rattle.verifier.specs.Records.{height_of, spare_of, root_of, leaf_of, row_of}
+use Rattle.verifier.specs.Records.{field, key_length, release_length}
+use Rattle.verifier.specs.Records.{hash_number_of, code_number_of, height_of, spare_of}
+use Rattle.verifier.specs.Records.{root_of, leaf_of, row_of}
 use Rattle.verifier.specs.Rules.{open_rule, root_shown}
 
 -- 6: fewer than 10 bytes, or a length field that differs from the number of bytes
