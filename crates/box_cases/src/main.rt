@@ -2,6 +2,9 @@
 //! the others are edits of one of them, each for a refusal.
 #![tactic(auto)]
 
+mod faltering;
+
+use faltering::Faltering;
 use orders::{LIMIT, check};
 use std::fs::File;
 
@@ -30,6 +33,17 @@ const CASES: [&str; 22] = [
     "many_orders",
 ];
 
+// The report of the first case, read from a line that falters.
+fn falter(rt: HostRuntime, room: &mut [u8; LIMIT], fails_after: u32) -> anyhow::Result<()> {
+    let file = File::open(&rt, "box_1_1.in")?;
+    println!(rt; "box_1_1, interrupted before each byte, failing after {fails_after}")?;
+    match check(&mut Faltering::new(file, fails_after), room) {
+        Ok(report) => print!(rt; "{report}")?,
+        Err(error) => println!(rt; "{error}")?,
+    }
+    Ok(())
+}
+
 fn main(rt: HostRuntime) -> anyhow::Result<()> {
     let mut room = [0; LIMIT];
     for case in CASES {
@@ -39,5 +53,6 @@ fn main(rt: HostRuntime) -> anyhow::Result<()> {
         println!(rt; "{case}")?;
         print!(rt; "{report}")?;
     }
-    Ok(())
+    falter(rt, &mut room, u32::MAX)?;
+    falter(rt, &mut room, 1_000)
 }

@@ -1,12 +1,13 @@
 -- A room that is filled by reads, one after the other.
 -- Assumes nothing.
-use Rattle.std.proofs.Common.{◌≡◌, ℕ, ◌+◌, ◌<◌, ◌≤◌, inl, inr, List, [], ◌++◌, length, take, drop, None, Some, IfOk, IfSome, OnErr, Ok, Err, Result, Option, sym, refl, ap, ◌∙◌, subst, arith, append_assoc, append-nil, drop_at, length-take-le, take_all}
+use Rattle.std.proofs.Common.{◌≡◌, ℕ, ◌+◌, ◌<◌, ◌≤◌, inl, inr, List, [], ◌++◌, length, take, drop, None, Some, IfOk, IfSome, OnErr, Ok, Err, Result, Option, sym, refl, ap, ◌∙◌, subst, arith, append_assoc, append-nil, drop_at, length-take-le, take_all, length-drop}
 use Rattle.std.proofs.Math.Seq.{take-add}
 use Rattle.std.proofs.Math.ListN.{drop_of_length-le}
 use Rattle.std.proofs.lemmas.Bool.{cases_lt}
 use Rattle.std.proofs.lemmas.List.{take-append-le}
 use Rattle.std.specs.Io.{ReadsAtMost}
 use Rattle.std.specs.Io.KnownBytes.{Consumes, Keeps, IsAtEnd}
+use Rattle.orders.specs.Reading.{Giving, Tried, Gave, more, Ended}
 
 -- what was read into a part stands after the front
 pub read-in_place : {E : Type 0} (a b : Option (List ℕ)) (r : Result ℕ E) (front part rest : List ℕ) (at : ℕ) → length front ≡ at → ReadsAtMost r part → IfOk r (λ n. Consumes a b (take n part)) → IfOk r (λ n. Consumes a b (take n (drop at (front ++ (part ++ rest)))))
@@ -25,9 +26,31 @@ both-read (Some x) (Some y) None bs cs p q = absurd q
 both-read (Some x) (Some y) (Some z) bs cs p q = p ∙ ap (λ l. bs ++ l) q ∙ sym (append_assoc bs cs z)
 
 -- one read more
-pub more-read : (a b c : Option (List ℕ)) (before after : List ℕ) (filled n : ℕ) → take filled after ≡ take filled before → Consumes a b (take filled before) → Consumes b c (take n (drop filled after)) → Consumes a c (take (filled + n) after)
-more-read a b c before after filled n front p q =
-    subst (Consumes a c) (sym (take-add filled n after ∙ ap (λ l. l ++ take n (drop filled after)) front)) (both-read a b c _ _ p q)
+module _ (before after : List ℕ) (filled n : ℕ) (front : take filled after ≡ take filled before) where
+  joined : take (filled + n) after ≡ take filled before ++ take n (drop filled after)
+  joined = take-add filled n after ∙ ap (λ l. l ++ take n (drop filled after)) front
+
+  pub more-read : (a b c : Option (List ℕ)) → Consumes a b (take filled before) → Consumes b c (take n (drop filled after)) → Consumes a c (take (filled + n) after)
+  more-read a b c p q = subst (Consumes a c) (sym joined) (both-read a b c _ _ p q)
+
+  pub more-given : {S : Type 0} {gives : Giving S} {s t u : S} → Gave gives s (take filled before) t → Tried gives t (Ok n) (drop filled after) u → Gave gives s (take (filled + n) after) u
+  more-given {gives = gives} {s = s} {u = u} p q = subst (λ bytes. Gave gives s bytes u) (sym joined) (more p q)
+
+-- a read that gave no byte is the last
+module _ (before after : List ℕ) (filled n : ℕ) (front : take filled after ≡ take filled before) (none : n ≡ 0) where
+  pub no-more : {S : Type 0} {gives : Giving S} {s t u : S} → Gave gives s (take filled before) t → Tried gives t (Ok n) (drop filled after) u → Gave gives s (take filled after) u
+  no-more {gives = gives} {s = s} {u = u} p q =
+      subst (λ k. Gave gives s (take k after) u) (omega (arith, none)) (more-given before after filled n front p q)
+
+  pub ended : {S : Type 0} {gives : Giving S} {s t u : S} → filled < length after → Gave gives s (take filled before) t → Tried gives t (Ok n) (drop filled after) u → Ended gives s (take filled after) u
+  ended {gives = gives} {s = s} {t = t} {u = u} less p q =
+      record {
+        between = t;
+        room = drop filled after;
+        given = subst (λ bytes. Gave gives s bytes t) (sym front) p;
+        roomy = omega (arith, length-drop filled after);
+        last = subst (λ k. Tried gives t (Ok k) (drop filled after) u) none q;
+      }
 
 -- all that a room of this size takes of the bytes, and what is left of them
 pub record Taken (limit : ℕ) (bytes read left : List ℕ) : Type 0 where

@@ -1,6 +1,6 @@
 -- What a key record and an order are refused for: each condition, and both lists in their order.
 -- Assumes nothing.
-use Rattle.std.specs.Prelude.{◌≡◌, ◌≢◌, ℕ, ◌<◌, ◌⊎◌, List, [], ◌∷◌, ◌++◌}
+use Rattle.std.specs.Prelude.{◌≡◌, ℕ, ◌<◌, List, [], ◌∷◌, ◌++◌}
 use Rattle.std.specs.Prelude.{length, take, drop, Ok, Result}
 use Rattle.tree.specs.Meaning.{Hash, Code}
 use Rattle.verifier.specs.Causes.{Cause, cause, Refuses}
@@ -10,17 +10,15 @@ use Rattle.verifier.specs.Keys.{Key}
 use Rattle.verifier.specs.Records.{hash_number_of, code_number_of}
 use Rattle.verifier.specs.Rules.{open_rule}
 use Rattle.verifier.specs.declared.refusal.Refusal.{Refusal}
-use Rattle.schemes.specs.Names.{hash_named, code_named}
+use Rattle.schemes.specs.Names.{hash_named, code_named, UnknownNumbers}
 use Rattle.schemes.specs.declared.names.HashName.{HashName}
 use Rattle.schemes.specs.declared.names.CodeName.{CodeName}
 use Rattle.orders.specs.Outcomes.{first_record, after_record}
 use Rattle.orders.specs.Reports.{Reported}
 
 -- 8, of a key record: no hash that is known has its hash number, or no code its code number
-abbrev pub UnknownNumbers : List ℕ → Type 0
-UnknownNumbers bytes =
-    ((hash : HashName) → (hash_named hash).number ≢ hash_number_of bytes)
-    ⊎ ((code : CodeName) → (code_named code).number ≢ code_number_of bytes)
+abbrev pub UnknownKey : List ℕ → Type 0
+UnknownKey bytes = UnknownNumbers (hash_number_of bytes) (code_number_of bytes)
 
 -- 10, of a key record: another byte count than the layout has under the code that it names
 abbrev pub WrongNamedLength : List ℕ → Type 0
@@ -32,7 +30,7 @@ WrongNamedLength bytes =
 abbrev pub key_causes : List ℕ → List Cause
 key_causes bytes =
     header_causes 1 bytes
-    ++ (cause 8 (UnknownNumbers bytes)
+    ++ (cause 8 (UnknownKey bytes)
     ∷ (cause 9 (WrongHeight bytes) ∷ (cause 10 (WrongNamedLength bytes) ∷ [])))
 
 -- the first order in `bytes`, under a key that this hash and code opened: a stamp that is cut

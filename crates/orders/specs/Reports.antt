@@ -12,6 +12,7 @@ use Rattle.schemes.specs.Names.{hash_named, code_named, scheme_numbered}
 use Rattle.schemes.specs.declared.scheme.Scheme.{Scheme}
 use Rattle.schemes.specs.declared.unknown.UnknownScheme.{UnknownScheme}
 use Rattle.orders.specs.Outcomes.{Outcomes, first_record, after_record}
+use Rattle.orders.specs.Reading.{Giving, Gave, Ended}
 use Rattle.orders.specs.declared.key.KeySummary.{KeySummary}
 
 -- what an opened key record names, or its refusal, and the answer to each order
@@ -53,8 +54,10 @@ Reports input report =
 abbrev pub most_read : ℕ
 most_read = 65536
 
--- a reader gave these bytes, of those that it had left: as many as are read, or fewer at its end
-pub record ReadFirst (old new : Option (List ℕ)) (bytes : List ℕ) : Type 0 where
+-- a source gave these bytes, of those that it had left: as many as are read, or fewer at its end
+pub record ReadFirst {S : Type 0} (gives : Giving S) (remaining : S → Option (List ℕ))
+    (before : S) (bytes : List ℕ) (after : S) : Type 0 where
   pub within : length bytes ≤ most_read
-  pub taken : Consumes old new bytes
-  pub ended : length bytes < most_read → IsAtEnd new
+  pub given : Gave gives before bytes after
+  pub taken : Consumes (remaining before) (remaining after) bytes
+  pub ended : length bytes < most_read → Ended gives before bytes after × IsAtEnd (remaining after)

@@ -7,6 +7,7 @@ mod order;
 mod reading;
 mod records;
 mod report;
+mod source;
 mod tour;
 
 pub use checking::{check, report_of};
@@ -14,4 +15,5 @@ pub use key::KeySummary;
 pub use order::Order;
 pub use reading::LIMIT;
 pub use report::Report;
+pub use source::Source;
 pub use tour::{Orders, Tour};

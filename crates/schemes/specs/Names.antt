@@ -1,6 +1,6 @@
 -- What the names of hashes and codes mean, and their numbers.
 -- Assumes nothing.
-use Rattle.std.specs.Prelude.{ℕ, if◌then◌else◌, Ok, Err, Result, ◌==◌}
+use Rattle.std.specs.Prelude.{◌≢◌, ◌⊎◌, ℕ, if◌then◌else◌, Ok, Err, Result, ◌==◌}
 use Rattle.tree.specs.Meaning.{Hash, Code}
 use Rattle.verifier.specs.Rules.{after}
 use Rattle.schemes.specs.Known.{sha, aes, practice, lamport_diffie_code, winternitz2_code, winternitz4_code}
@@ -42,3 +42,9 @@ code_name n =
 -- the hash and the code with these numbers
 abbrev pub scheme_numbered : ℕ → ℕ → Result Scheme UnknownScheme
 scheme_numbered hash code = after (hash_name hash) (λ h. after (code_name code) (λ c. Ok (record { hash = h; code = c })))
+
+-- no hash that is known has the first number, or no code the second
+abbrev pub UnknownNumbers : ℕ → ℕ → Type 0
+UnknownNumbers hash code =
+    ((h : HashName) → (hash_named h).number ≢ hash)
+    ⊎ ((c : CodeName) → (code_named c).number ≢ code)

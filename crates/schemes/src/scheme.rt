@@ -1,7 +1,7 @@
 //! A hash and a code, and work that is done with any of them.
 
-ghost use Rattle.std.specs.Prelude.{◌≡◌};
-ghost use Rattle.schemes.specs.Names.{hash_named, code_named, scheme_numbered};
+ghost use Rattle.std.specs.Prelude.{◌≡◌, ◌↔◌, IsErr};
+ghost use Rattle.schemes.specs.Names.{hash_named, code_named, scheme_numbered, UnknownNumbers};
 ghost use Rattle.tree.specs.Meaning.{Hash, Code, hash_of, code_of};
 
 use crate::{CodeName, HashName, UnknownScheme};
@@ -45,7 +45,8 @@ pub struct Scheme {
 impl Scheme {
     /// The hash and the code with these numbers.
     pub fn numbered(hash: u8, code: u8) -> Result<Scheme, UnknownScheme>
-        ensures { result ≡ scheme_numbered hash code }
+        ensures value { result ≡ scheme_numbered hash code }
+        ensures unknown { IsErr result ↔ UnknownNumbers hash code }
     {
         let hash = HashName::try_from(hash)?;
         let code = CodeName::try_from(code)?;

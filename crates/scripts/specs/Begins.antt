@@ -1,11 +1,13 @@
 -- Beginning a key.
 -- Assumes nothing.
-use Rattle.std.specs.Prelude.{ℕ, Ok, Err, Result}
+use Rattle.std.specs.Prelude.{◌≡◌, ◌↔◌, ℕ, IsOk, Some, None, Option, Ok, Err, Result}
+use Rattle.histories.specs.Conditions.{plan_causes}
 use Rattle.histories.specs.Rules.{plan_rule}
-use Rattle.schemes.specs.Names.{scheme_numbered}
+use Rattle.schemes.specs.Names.{scheme_numbered, UnknownNumbers}
 use Rattle.schemes.specs.declared.scheme.Scheme.{Scheme}
 use Rattle.schemes.specs.declared.unknown.UnknownScheme as unknown
 use Rattle.signer.specs.Views.{height_of_plan}
+use Rattle.verifier.specs.Causes.{NoCause, Refuses}
 use Rattle.verifier.specs.declared.refusal.Refusal.{Refusal}
 use Rattle.scripts.specs.declared.begin.NotBegun.{NotBegun}
 use Rattle.scripts.specs.declared.begin.NotBegun.TheVariants.{Refused, UnknownScheme}
@@ -28,3 +30,15 @@ planned (Ok height) (Ok scheme) = Ok (record { height = height; scheme = scheme 
 -- begin: a height outside 1 to 8 is refused, and then a hash or code is not known
 abbrev pub start_rule : ℕ → ℕ → ℕ → Result Named NotBegun
 start_rule hash code height = planned (plan_rule height) (scheme_numbered hash code)
+
+-- the answer of begin as far as refusals go: a scheme that is not known is none
+abbrev pub refusal_in : Result Start NotBegun → Result (Option Start) Refusal
+refusal_in (Ok start) = Ok (Some start)
+refusal_in (Err (Refused e)) = Err e
+refusal_in (Err UnknownScheme) = Ok None
+
+-- begin refuses by the plan's list; where it refuses nothing, the scheme is not known, or a key begins
+pub record StartRefuses (hash code height : ℕ) (r : Result Start NotBegun) : Type 0 where
+  pub refused : Refuses (plan_causes height) (refusal_in r)
+  pub unknown : (r ≡ Err UnknownScheme) ↔ (NoCause (plan_causes height) × UnknownNumbers hash code)
+  pub begun : IsOk r ↔ (NoCause (plan_causes height) × (UnknownNumbers hash code → ⊥))

@@ -1,7 +1,7 @@
 //! The first call of a key.
 
 ghost use Rattle.std.specs.Prelude.{◌≡◌};
-ghost use Rattle.scripts.specs.Begins.{start_of, start_rule};
+ghost use Rattle.scripts.specs.Begins.{start_of, start_rule, StartRefuses};
 ghost use Rattle.verifier.specs.Rules.{seen};
 
 use schemes::{Scheme, UnknownScheme};
@@ -60,7 +60,9 @@ impl From<UnknownScheme> for NotBegun {
 impl Begin {
     /// Answers an error for a height outside 1 to 8, and then for a hash or code that is not known.
     pub fn start(&self) -> Result<Start, NotBegun>
-        ensures { seen start_of result ≡ start_rule self.now.hash self.now.code self.now.height }
+        ensures value { seen start_of result ≡
+            start_rule self.now.hash self.now.code self.now.height }
+        ensures refuses { StartRefuses self.now.hash self.now.code self.now.height result }
     {
         let plan = Plan::new(self.height)?;
         let scheme = Scheme::numbered(self.hash, self.code)?;

@@ -7,7 +7,7 @@ use Rattle.orders.proofs.checking.check.Given.{Over}
 use Rattle.orders.proofs.checking.check.Goals.{After-report_of}
 use Rattle.orders.proofs.checking.check.Goals as goal
 
-took : (g : Over) (c : After-report_of g) → Takes most_read (g.R.Read.remaining c.args.input.now) (g.R.Read.remaining c.fill.new.input) (take c.in_ok-filled.filled c.fill.new.room)
+took : (g : Over) (c : After-report_of g) → Takes most_read (g.S.Source.remaining c.args.input.now) (g.S.Source.remaining c.fill.new.input) (take c.in_ok-filled.filled c.fill.new.room)
 took g c =
     let read = c.in_ok-filled.ensures in
     let size : length c.fill.new.room ≡ most_read = search rules in
@@ -22,7 +22,7 @@ returns-clause-read g c =
     let long = length-take-le n room read.within in
     let few : n ≤ most_read = omega (arith, read.within) in (
       take n room,
-      record { within = omega (arith, few); taken = read.bytes; ended = λ less. read.end (omega (arith, less)) },
+      record { within = omega (arith, few); given = read.gave; taken = read.bytes; ended = λ less. (read.ended (omega (arith, less)), read.end (omega (arith, less))) },
       c.report_of.ensures.report,
     )
 

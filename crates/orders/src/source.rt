@@ -1,0 +1,35 @@
+//! Where bytes are read from.
+
+ghost use Rattle.std.specs.Prelude.{ℕ, List, Option};
+ghost use Rattle.std.specs.Io.{ReadsAtMost};
+ghost use Rattle.std.specs.Io.KnownBytes.{ReadConsumes};
+ghost use Rattle.orders.specs.Reading.{Giving};
+
+use std::io::{self, Read};
+
+/// What bytes are read from: every reader.
+pub trait Source {
+    // The bytes that reads will give from here on, where they are known.
+    ghost remaining: { Self → Option (List ℕ) };
+
+    // What a read does: the source before it, its answer, the room and the source after it.
+    ghost gives: { Giving Self };
+
+    /// One read into the front of the room: how many bytes it gave, none at the end.
+    fn read_once(&mut self, room: &mut [u8]) -> io::Result<usize>
+        ensures within { ReadsAtMost result room.new }
+        ensures bytes { ReadConsumes (remaining self.old) (remaining self.new) result room.new }
+        ensures gives { gives self.old result room.new self.new };
+}
+
+// As far as the standard library says what a read does.
+impl<R: Read> Source for R {
+    ghost remaining = { R.remaining };
+
+    ghost gives = { λ before r room after.
+        ReadsAtMost r room × ReadConsumes (R.remaining before) (R.remaining after) r room };
+
+    fn read_once(&mut self, room: &mut [u8]) -> io::Result<usize> {
+        self.read(room)
+    }
+}
