@@ -6,16 +6,18 @@ use std::io::{self, ErrorKind, Read};
 #[derive(Drop)]
 pub struct Faltering<R> {
     inner: R,
-    fails_after: u32,
+    left: u32,
+    error: ErrorKind,
     interrupted: bool,
 }
 
 impl<R: Read> Faltering<R> {
-    /// Fails once `inner` gave this many bytes.
-    pub fn new(inner: R, fails_after: u32) -> Faltering<R> {
+    /// Fails with `error` once it gave this many bytes of `inner`.
+    pub fn new(inner: R, bytes: u32, error: ErrorKind) -> Faltering<R> {
         Faltering {
             inner,
-            fails_after,
+            left: bytes,
+            error,
             interrupted: false,
         }
     }
@@ -27,10 +29,10 @@ impl<R: Read> Read for Faltering<R> {
         if self.interrupted {
             return Err(io::Error::from(ErrorKind::Interrupted));
         }
-        if self.fails_after == 0 {
-            return Err(io::Error::from(ErrorKind::ConnectionReset));
+        if self.left == 0 {
+            return Err(io::Error::from(self.error));
         }
-        self.fails_after -= 1;
+        self.left -= 1;
         let one = room.len().min(1);
         self.inner.read(&mut room[..one])
     }

@@ -1,5 +1,5 @@
 //! box_cases: the report of each input in the folder of cases. An independent model made those named `box_HASH_CODE`;
-//! the others are edits of one of them, each for a refusal. Then the first once more, by a reader that falters.
+//! the others are edits of one of them, each for a refusal. Then the longest, by readers that falter.
 #![tactic(auto)]
 
 mod faltering;
@@ -7,6 +7,7 @@ mod faltering;
 use faltering::Faltering;
 use orders::{LIMIT, check};
 use std::fs::File;
+use std::io::ErrorKind;
 
 const CASES: [&str; 22] = [
     "box_1_1",
@@ -33,11 +34,32 @@ const CASES: [&str; 22] = [
     "many_orders",
 ];
 
-// The report of the first case, read from a line that falters.
-fn falter(rt: HostRuntime, room: &mut [u8; LIMIT], fails_after: u32) -> anyhow::Result<()> {
-    let file = File::open(&rt, "box_1_1.in")?;
-    println!(rt; "box_1_1, interrupted before each byte, failing after {fails_after}")?;
-    match check(&mut Faltering::new(file, fails_after), room) {
+// After how many bytes a reader fails, and how. The first is asked for no more.
+const FAILURES: [(u32, ErrorKind); 12] = [
+    (65_536, ErrorKind::Other),
+    (65_535, ErrorKind::Other),
+    (50_000, ErrorKind::WouldBlock),
+    (32_769, ErrorKind::TimedOut),
+    (32_768, ErrorKind::InvalidData),
+    (20_000, ErrorKind::UnexpectedEof),
+    (10_000, ErrorKind::OutOfMemory),
+    (5_000, ErrorKind::NotConnected),
+    (1_000, ErrorKind::ConnectionReset),
+    (100, ErrorKind::PermissionDenied),
+    (1, ErrorKind::Unsupported),
+    (0, ErrorKind::BrokenPipe),
+];
+
+// The longest case, read by a reader that falters: its report, or the error.
+fn falter(
+    rt: HostRuntime,
+    room: &mut [u8; LIMIT],
+    bytes: u32,
+    error: ErrorKind,
+) -> anyhow::Result<()> {
+    let file = File::open(&rt, "cut_at_the_limit.in")?;
+    println!(rt; "cut_at_the_limit, failing after {bytes} bytes")?;
+    match check(&mut Faltering::new(file, bytes, error), room) {
         Ok(report) => print!(rt; "{report}")?,
         Err(error) => println!(rt; "{error}")?,
     }
@@ -53,6 +75,8 @@ fn main(rt: HostRuntime) -> anyhow::Result<()> {
         println!(rt; "{case}")?;
         print!(rt; "{report}")?;
     }
-    falter(rt, &mut room, 20_000)?;
-    falter(rt, &mut room, 1_000)
+    for (bytes, error) in FAILURES {
+        falter(rt, &mut room, bytes, error)?;
+    }
+    Ok(())
 }

@@ -1,6 +1,7 @@
 -- A report refuses by the lists of the key record and of the orders.
 -- Assumes nothing.
-use Rattle.std.proofs.Common.{◌≡◌, ℕ, ◌<◌, false, not, eqb, inl, ⊎_elim, List, ◌∷◌, length, take, drop, Ok, Err, Result, Decides, sym, ap, ◌∙◌, subst, arith}
+use Rattle.std.proofs.Common.{◌≡◌, ℕ, ◌<◌, ◌≤◌, false, not, eqb, inl, ⊎_elim, List, ◌∷◌, length, take, drop, Ok, Err, Result, Decides, sym, ap, ◌∙◌, subst, arith, [], is_err, IsErr, refl}
+use Rattle.std.proofs.Math.ListN.{drop_of_length-le}
 use Rattle.std.proofs.lemmas.Bool.{false≢true}
 use Rattle.std.proofs.lemmas.Bool.Decides.{Decides-eqb, Decides-not, Decides-or, Decides-ltb}
 use Rattle.tree.specs.Meaning.{Hash, Code}
@@ -21,7 +22,7 @@ use Rattle.schemes.specs.declared.names.CodeName.{CodeName}
 use Rattle.schemes.specs.declared.scheme.Scheme.{Scheme}
 use Rattle.schemes.specs.declared.unknown.UnknownScheme.{UnknownScheme}
 use Rattle.schemes.proofs.Numbered.{same-code, itself, either}
-use Rattle.orders.specs.Conditions.{UnknownKey, WrongNamedLength, key_causes, order_causes, EachRefuses, OrdersRefuse, RefusesByLists}
+use Rattle.orders.specs.Conditions.{UnknownKey, WrongNamedLength, named_key_causes, order_causes, EachRefuses, OrdersRefuse, RefusesByLists}
 use Rattle.orders.specs.Outcomes.{Outcomes, none, short, order, first_record, after_record}
 use Rattle.orders.specs.Reports.{Reported, Checked, Unknown, CheckedBy, Reports}
 
@@ -38,7 +39,7 @@ differs : (x y : ℕ) → Decides (not (eqb x y)) (x ≡ y → ⊥)
 differs x y = Decides-not (eqb x y) (Decides-eqb x y)
 
 -- open by the hash and code that the record names
-open-refuses : (hash : HashName) (code : CodeName) (key : List ℕ) → (hash_named hash).number ≡ hash_number_of key → (code_named code).number ≡ code_number_of key → Refuses (key_causes key) (open_rule (hash_named hash).number (code_named code).number (code_named code).levels key)
+open-refuses : (hash : HashName) (code : CodeName) (key : List ℕ) → (hash_named hash).number ≡ hash_number_of key → (code_named code).number ≡ code_number_of key → Refuses (named_key_causes key) (open_rule (hash_named hash).number (code_named code).number (code_named code).levels key)
 open-refuses hash code key h c =
     let unlike = Decides-or _ _ (differs (hash_number_of key) (hash_named hash).number) (differs (code_number_of key) (code_named code).number) in
     let long = differs (length key) (key_length (height_of key) (code_named code).levels) in
@@ -64,12 +65,12 @@ unknown-like (Ok body) causes report p by =
 unknown-like (Err e) causes report p by =
     subst (Refuses causes) (sym p.0) (record { refused = by.refused; answered = by.answered })
 
-unknown-refuses : (key : List ℕ) (report : Reported) → Unknown (header_rule 1 key) report → UnknownKey key → Refuses (key_causes key) report.key
+unknown-refuses : (key : List ℕ) (report : Reported) → Unknown (header_rule 1 key) report → UnknownKey key → Refuses (named_key_causes key) report.key
 unknown-refuses key report p unknown =
-    unknown-like (header_rule 1 key) (key_causes key) report p
+    unknown-like (header_rule 1 key) (named_key_causes key) report p
     (refuses-after _ _ (header_rule 1 key) _ (header-refuses 1 key) (λ body is. refuses-here (UnknownKey key) Parameters _ unknown))
 
-key-refuses : (key orders : List ℕ) (report : Reported) → CheckedBy (scheme_numbered (hash_number_of key) (code_number_of key)) key orders report → Refuses (key_causes key) report.key
+key-refuses : (key orders : List ℕ) (report : Reported) → CheckedBy (scheme_numbered (hash_number_of key) (code_number_of key)) key orders report → Refuses (named_key_causes key) report.key
 key-refuses key orders report p =
     let at = λ (s : Result Scheme UnknownScheme) (e : scheme_numbered (hash_number_of key) (code_number_of key) ≡ s). subst (λ t. CheckedBy t key orders report) e p in
     ⊎_elim
@@ -83,12 +84,19 @@ opening : Hash → Code → Opening
 opening hash code =
     record { hash = hash.number; code = code.number; levels = code.levels }
 
+-- no bytes follow a stamp that is cut short
+nothing-after : (bytes : List ℕ) → length bytes < 16 → length (after_record (drop 16 bytes)) ≡ 0
+nothing-after bytes few =
+    let within : length bytes ≤ 16 = omega (arith, few) in
+    ap (λ l. length (after_record l)) (drop_of_length-le bytes within)
+
 each-refuses : (hash : Hash) (code : Code) (key : Key) → OpenedWith (opening hash code) key → {bytes : List ℕ} {answers : List (Result ℕ Refusal)} → Outcomes (verify_rule hash code key) bytes answers → EachRefuses (order_causes hash code key) bytes answers
 unfolding opening
-each-refuses hash code key opened none = tt
-each-refuses hash code key opened (short {bytes = bytes} some few) = (refuses-here (length bytes < 16) Length _ few, tt)
+each-refuses hash code key opened none = refl
+each-refuses hash code key opened (short {bytes = bytes} some few) =
+    (some, refuses-here (length bytes < 16) Length _ few, nothing-after bytes few)
 each-refuses hash code key opened (order {bytes = bytes} long rest) =
-    (refuses-more false (length bytes < 16) Length _ _ (λ test. absurd (false≢true test), λ few. absurd (omega arith)) (verify-refuses hash code (opening hash code) key (take 16 bytes) (first_record (drop 16 bytes)) opened), each-refuses hash code key opened rest)
+    (omega (arith, long), refuses-more false (length bytes < 16) Length _ _ (λ test. absurd (false≢true test), λ few. absurd (omega arith)) (verify-refuses hash code (opening hash code) key (take 16 bytes) (first_record (drop 16 bytes)) opened), each-refuses hash code key opened rest)
 
 orders-refuse : (hash : HashName) (code : CodeName) (key orders : List ℕ) (report : Reported) → CheckedBy (scheme_numbered (hash_number_of key) (code_number_of key)) key orders report → OrdersRefuse (hash_named hash) (code_named code) key orders report.orders
 unfolding opening
@@ -102,8 +110,24 @@ orders-refuse hash code key orders report p opened is =
     let again = subst (λ b. open_rule (hash_named hash).number (code_named code).number (code_named code).levels b ≡ Ok opened) (sym (ap (λ k. k.bytes) facts.1)) is in
     each-refuses (hash_named hash) (code_named code) opened again answered.1
 
+none-after : (hash : Hash) (code : Code) (r : Result Key Refusal) (orders : List ℕ) (report : Reported) → Checked hash code r orders report → IsErr report.key → report.orders ≡ []
+none-after hash code (Ok key) orders report p e = absurd (false≢true (sym (ap is_err p.0) ∙ e))
+none-after hash code (Err x) orders report p e = p.1
+
+none-unknown : (r : Result (List ℕ) Refusal) (report : Reported) → Unknown r report → report.orders ≡ []
+none-unknown (Ok body) report p = p.1
+none-unknown (Err e) report p = p.1
+
+no-orders : (scheme : Result Scheme UnknownScheme) (key orders : List ℕ) (report : Reported) → CheckedBy scheme key orders report → IsErr report.key → report.orders ≡ []
+no-orders (Ok scheme) key orders report p e =
+    let hash = hash_named scheme.hash in
+    let code = code_named scheme.code in
+    none-after hash code (open_rule hash.number code.number code.levels key) orders report p e
+no-orders (Err u) key orders report p e = none-unknown (header_rule 1 key) report p
+
 pub refuses-by-lists : (input : List ℕ) (report : Reported) → Reports input report → RefusesByLists input report
 refuses-by-lists input report p = record {
   of_key = key-refuses (first_record input) (after_record input) report p;
+  of_none = no-orders (scheme_numbered (hash_number_of (first_record input)) (code_number_of (first_record input))) (first_record input) (after_record input) report p;
   of_orders = λ hash code. orders-refuse hash code (first_record input) (after_record input) report p;
 }

@@ -1,7 +1,7 @@
 -- What a key record and an order are refused for: each condition, and both lists in their order.
 -- Assumes nothing.
 use Rattle.std.specs.Prelude.{◌≡◌, ℕ, ◌<◌, List, [], ◌∷◌, ◌++◌}
-use Rattle.std.specs.Prelude.{length, take, drop, Ok, Result}
+use Rattle.std.specs.Prelude.{length, take, drop, IsErr, Ok, Result}
 use Rattle.tree.specs.Meaning.{Hash, Code}
 use Rattle.verifier.specs.Causes.{Cause, cause, Refuses}
 use Rattle.verifier.specs.Conditions.{WrongHeight, WrongKeyLength, Opening}
@@ -26,9 +26,9 @@ WrongNamedLength bytes =
     (code : CodeName) × ((code_named code).number ≡ code_number_of bytes)
     × WrongKeyLength (code_named code).levels bytes
 
--- a key record
-abbrev pub key_causes : List ℕ → List Cause
-key_causes bytes =
+-- a key record, by the hash and the code that it names
+abbrev pub named_key_causes : List ℕ → List Cause
+named_key_causes bytes =
     header_causes 1 bytes
     ++ (cause 8 (UnknownKey bytes)
     ∷ (cause 9 (WrongHeight bytes) ∷ (cause 10 (WrongNamedLength bytes) ∷ [])))
@@ -41,11 +41,12 @@ order_causes hash code key bytes =
     cause 6 (length bytes < 16)
     ∷ verify_causes hash code with key (take 16 bytes) (first_record (drop 16 bytes))
 
--- the answer to each order in `bytes` refuses by the list of that order
+-- there is an answer to each order in `bytes`, and it refuses by the list of that order
 abbrev pub EachRefuses : (List ℕ → List Cause) → List ℕ → List (Result ℕ Refusal) → Type 0
-EachRefuses causes bytes [] = Unit {0}
+EachRefuses causes bytes [] = length bytes ≡ 0
 EachRefuses causes bytes (answer ∷ answers) =
-    Refuses (causes bytes) answer × EachRefuses causes (after_record (drop 16 bytes)) answers
+    (0 < length bytes) × Refuses (causes bytes) answer
+    × EachRefuses causes (after_record (drop 16 bytes)) answers
 
 -- under a key record that opens, by the hash and the code that it names
 abbrev pub OrdersRefuse : Hash → Code → List ℕ → List ℕ → List (Result ℕ Refusal) → Type 0
@@ -55,7 +56,8 @@ OrdersRefuse hash code bytes orders answers =
 
 -- the report of an input refuses by these lists
 pub record RefusesByLists (input : List ℕ) (report : Reported) : Type 0 where
-  pub of_key : Refuses (key_causes (first_record input)) report.key
+  pub of_key : Refuses (named_key_causes (first_record input)) report.key
+  pub of_none : IsErr report.key → report.orders ≡ []
   pub of_orders : (hash : HashName) (code : CodeName) →
       OrdersRefuse (hash_named hash) (code_named code) (first_record input) (after_record input)
       report.orders

@@ -1,6 +1,7 @@
 -- Reads of a source, one after the other.
 -- Assumes nothing.
-use Rattle.std.specs.Prelude.{◌≡◌, ◌≢◌, ℕ, ◌+◌, ◌-◌, ◌^◌, ◌<◌, List, [], ◌++◌, length, take, IfErr, Ok, Err, Result}
+use Rattle.std.specs.Prelude.{◌≡◌, ◌≢◌, ℕ, ◌+◌, ◌-◌, ◌^◌, ◌<◌, ◌⊎◌, List, [], ◌++◌, length}
+use Rattle.std.specs.Prelude.{take, IfErr, Ok, Err, Result}
 use Rattle.std.specs.IoError.{error_kind}
 use Rattle.std.specs.declared.io.Error.{Error}
 use Rattle.std.specs.declared.io.ErrorKind.TheVariants as kind
@@ -32,28 +33,24 @@ pub data Tried {S : Type 0} (gives : Giving S) (before : S) :
       Interrupted gives before most_tries after → error_kind e ≡ kind.TimedOut →
       Tried gives before (Err e) room after
 
--- reads one after the other gave these bytes
+-- reads one after the other gave these bytes, each some of them
 pub data Gave {S : Type 0} (gives : Giving S) (before : S) : List ℕ → S → Type 0 where
   nothing : Gave gives before [] before
   more : {n : ℕ} {bytes room : List ℕ} {between after : S} →
-      Gave gives before bytes between → Tried gives between (Ok n) room after →
+      Gave gives before bytes between → Tried gives between (Ok n) room after → 0 < n →
       Gave gives before (bytes ++ take n room) after
 
--- reads gave these bytes, and the last found no more
-pub record Ended {S : Type 0} (gives : Giving S) (before : S) (bytes : List ℕ) (after : S) :
-    Type 0 where
+-- reads gave these bytes, and the next, into a room that is not empty, answered this
+pub record Stopped {S : Type 0} (gives : Giving S) (before : S) (bytes : List ℕ)
+    (r : Result ℕ Error) (after : S) : Type 0 where
   pub between : S
   pub room : List ℕ
   pub given : Gave gives before bytes between
   pub roomy : 0 < length room
-  pub last : Tried gives between (Ok 0) room after
+  pub last : Tried gives between r room after
 
--- reads gave fewer bytes than `most`, and then one failed with this error
-pub record Failed {S : Type 0} (gives : Giving S) (most : ℕ) (before : S) (e : Error) (after : S) :
-    Type 0 where
-  pub bytes : List ℕ
-  pub between : S
-  pub room : List ℕ
-  pub given : Gave gives before bytes between
-  pub fewer : length bytes < most
-  pub last : Tried gives between (Err e) room after
+-- reads gave `most` bytes, or fewer, and then the next found none
+abbrev pub ReadUpTo : {S : Type 0} → Giving S → ℕ → S → List ℕ → S → Type 0
+ReadUpTo gives most before bytes after =
+    ((length bytes ≡ most) × Gave gives before bytes after)
+    ⊎ ((length bytes < most) × Stopped gives before bytes (Ok 0) after)

@@ -1,7 +1,6 @@
 -- What is reported of a key record and the orders that follow it.
 -- Assumes nothing.
-use Rattle.std.specs.Prelude.{◌≡◌, ℕ, ◌<◌, ◌≤◌, List, [], length, Ok, Err, Option, Result}
-use Rattle.std.specs.Io.KnownBytes.{Consumes, IsAtEnd}
+use Rattle.std.specs.Prelude.{◌≡◌, ℕ, List, [], Ok, Err, Result}
 use Rattle.tree.specs.Meaning.{Hash, Code}
 use Rattle.verifier.specs.Keys.{Key}
 use Rattle.verifier.specs.Records.{hash_number_of, code_number_of}
@@ -12,7 +11,6 @@ use Rattle.schemes.specs.Names.{hash_named, code_named, scheme_numbered}
 use Rattle.schemes.specs.declared.scheme.Scheme.{Scheme}
 use Rattle.schemes.specs.declared.unknown.UnknownScheme.{UnknownScheme}
 use Rattle.orders.specs.Outcomes.{Outcomes, first_record, after_record}
-use Rattle.orders.specs.Reading.{Giving, Gave, Ended}
 use Rattle.orders.specs.declared.key.KeySummary.{KeySummary}
 
 -- what an opened key record names, or its refusal, and the answer to each order
@@ -53,11 +51,3 @@ Reports input report =
 -- as much of an input as is read, in bytes
 abbrev pub most_read : ℕ
 most_read = 65536
-
--- a source gave these bytes, of those that it had left: as many as are read, or fewer at its end
-pub record ReadFirst {S : Type 0} (gives : Giving S) (remaining : S → Option (List ℕ))
-    (before : S) (bytes : List ℕ) (after : S) : Type 0 where
-  pub within : length bytes ≤ most_read
-  pub given : Gave gives before bytes after
-  pub taken : Consumes (remaining before) (remaining after) bytes
-  pub ended : length bytes < most_read → Ended gives before bytes after × IsAtEnd (remaining after)

@@ -1,11 +1,11 @@
 //! From bytes to a report.
 
-ghost use Rattle.std.specs.Prelude.{◌≡◌, ◌≢◌, ℕ, ◌<◌, List, length, take, drop, IfOk, IfErr, IfSome, OnOk, OnErr, Some};
+ghost use Rattle.std.specs.Prelude.{◌≡◌, ◌≢◌, ℕ, ◌<◌, List, length, take, drop, IfOk, IfErr, IfSome, OnOk, Some, Err};
 ghost use Rattle.std.specs.Io.KnownBytes.{Consumes};
 ghost use Rattle.std.specs.IoError.{error_kind};
 ghost use Rattle.orders.specs.Conditions.{RefusesByLists};
-ghost use Rattle.orders.specs.Reading.{Failed};
-ghost use Rattle.orders.specs.Reports.{Reported, CheckedBy, Unknown, ReadFirst, Reports, most_read};
+ghost use Rattle.orders.specs.Reading.{Stopped, ReadUpTo};
+ghost use Rattle.orders.specs.Reports.{Reported, CheckedBy, Unknown, Reports, most_read};
 ghost use Rattle.orders.specs.Views.{reported};
 ghost use Rattle.verifier.specs.Rules.{header_rule};
 
@@ -88,20 +88,20 @@ pub fn report_of(input: &[u8]) -> Report<'_>
 
 /// Reads a key record and the orders that follow it from `input` into `room`, up to the input's end or 65,536 bytes; the rest
 /// is left unread. Checks them by the hash and code that the key record names. An error is that of a read, before 65,536 bytes
-/// were read; a read that was interrupted is tried again, 2^64 - 1 times at most.
+/// were read; a read that is interrupted is tried again, and given up after 2^64 - 1 tries.
 pub fn check<'a, S: Source>(input: &mut S, room: &'a mut [u8; LIMIT]) -> io::Result<Report<'a>>
     ensures read { IfOk result (λ report. (bytes : List ℕ)
-        × ReadFirst S.gives S.remaining input.old bytes input.new
-        × Reports bytes (reported report)) }
+        × ReadUpTo S.gives most_read input.old bytes input.new
+        × Reports bytes (reported report) × RefusesByLists bytes (reported report)) }
     ensures report { IfOk result (λ report. IfSome (S.remaining input.old)
         (λ bytes. Reports (take most_read bytes) (reported report))) }
     ensures refused { IfOk result (λ report. IfSome (S.remaining input.old)
         (λ bytes. RefusesByLists (take most_read bytes) (reported report))) }
     ensures unread { OnOk result (IfSome (S.remaining input.old)
         (λ bytes. S.remaining input.new ≡ Some (drop most_read bytes))) }
-    ensures failed { IfErr result (λ e. Failed S.gives most_read input.old e input.new) }
-    ensures lost { OnErr result ((bs : List ℕ) × (length bs < most_read)
-        × Consumes (S.remaining input.old) (S.remaining input.new) bs) }
+    ensures failed { IfErr result (λ e. (bytes : List ℕ) × (length bytes < most_read)
+        × Stopped S.gives input.old bytes (Err e) input.new
+        × Consumes (S.remaining input.old) (S.remaining input.new) bytes) }
     ensures retried { IfErr result (λ e. error_kind e ≢ ErrorKind.Interrupted) }
 {
     let filled = fill(input, room.as_mut_slice())?;

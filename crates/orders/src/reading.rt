@@ -1,24 +1,18 @@
 //! As much of a source as is read.
 
-ghost use Rattle.std.specs.Prelude.{◌≡◌, ◌+◌, ◌<◌, ◌≤◌, length, take, drop, IfOk, OnErr, IfErr, ℕ, List};
+ghost use Rattle.std.specs.Prelude.{◌≡◌, ◌+◌, ◌<◌, ◌≤◌, length, take, drop, IfOk, IfErr, Ok, Err, ℕ, List};
 ghost use Rattle.std.specs.Io.{ReadsAtMost};
-ghost use Rattle.std.specs.Io.KnownBytes.{Keeps, Consumes, IsAtEnd};
-ghost use Rattle.orders.specs.Reading.{Tried, Gave, Ended, Failed};
+ghost use Rattle.orders.specs.Reading.{Tried, Stopped, ReadUpTo};
 
 use crate::Source;
 use std::io::{self, ErrorKind};
 
-/// As much of a source as is read, in bytes.
+/// As much of an input as is read, in bytes.
 pub const LIMIT: usize = 65_536;
 
 // One read, tried again where it was interrupted; after 2^64 - 1 tries it is given up.
 fn read_some<S: Source>(input: &mut S, room: &mut [u8]) -> io::Result<usize>
     ensures within { ReadsAtMost result room.new }
-    ensures bytes { IfOk result (λ n. Consumes (S.remaining input.old) (S.remaining input.new)
-        (take n room.new)) }
-    ensures end { IfOk result (λ n. n ≡ 0 → 0 < length room.old →
-        IsAtEnd (S.remaining input.new)) }
-    ensures failed { OnErr result (Keeps (S.remaining input.old) (S.remaining input.new)) }
     ensures tried { Tried S.gives input.old result room.new input.new }
 {
     'tries: for _ in 0..u64::MAX {
@@ -39,10 +33,6 @@ fn read_after<S: Source>(input: &mut S, room: &mut [u8], filled: usize) -> io::R
     requires { filled < length room.old }
     ensures front { take filled room.new ≡ take filled room.old }
     ensures within { IfOk result (λ n. filled + n ≤ length room.new) }
-    ensures bytes { IfOk result (λ n. Consumes (S.remaining input.old) (S.remaining input.new)
-        (take n (drop filled room.new))) }
-    ensures end { IfOk result (λ n. n ≡ 0 → IsAtEnd (S.remaining input.new)) }
-    ensures failed { OnErr result (Keeps (S.remaining input.old) (S.remaining input.new)) }
     ensures tried { Tried S.gives input.old result (drop filled room.new) input.new }
 {
     read_some(input, &mut room[filled..])
@@ -51,16 +41,11 @@ fn read_after<S: Source>(input: &mut S, room: &mut [u8], filled: usize) -> io::R
 /// Reads up to the source's end or until the room is full, and answers how many bytes were read.
 pub fn fill<S: Source>(input: &mut S, room: &mut [u8]) -> io::Result<usize>
     ensures within { IfOk result (λ n. n ≤ length room.new) }
-    ensures bytes { IfOk result (λ n. Consumes (S.remaining input.old) (S.remaining input.new)
-        (take n room.new)) }
-    ensures end { IfOk result (λ n. n < length room.new → IsAtEnd (S.remaining input.new)) }
-    ensures gave { IfOk result (λ n. Gave S.gives input.old (take n room.new) input.new) }
-    ensures ended { IfOk result (λ n. n < length room.new →
-        Ended S.gives input.old (take n room.new) input.new) }
-    ensures lost { OnErr result ((bs : List ℕ) × (length bs < length room.old)
-        × Consumes (S.remaining input.old) (S.remaining input.new) bs) }
-    ensures failed { IfErr result (λ e.
-        Failed S.gives (length room.old) input.old e input.new) }
+    ensures read { IfOk result (λ n.
+        ReadUpTo S.gives (length room.old) input.old (take n room.new) input.new) }
+    ensures failed { IfErr result (λ e. (bytes : List ℕ)
+        × (length bytes < length room.old)
+        × Stopped S.gives input.old bytes (Err e) input.new) }
 {
     let mut filled = 0;
     while filled < room.len() {

@@ -1,8 +1,9 @@
 //! Where bytes are read from.
 
-ghost use Rattle.std.specs.Prelude.{ℕ, List, Option};
+ghost use Rattle.std.specs.Prelude.{ℕ, List, Option, Result};
 ghost use Rattle.std.specs.Io.{ReadsAtMost};
 ghost use Rattle.std.specs.Io.KnownBytes.{ReadConsumes};
+ghost use Rattle.std.specs.declared.io.Error.{Error};
 ghost use Rattle.orders.specs.Reading.{Giving};
 
 use std::io::{self, Read};
@@ -17,9 +18,15 @@ pub trait Source {
 
     /// One read into the front of the room: how many bytes it gave, none at the end.
     fn read_once(&mut self, room: &mut [u8]) -> io::Result<usize>
-        ensures within { ReadsAtMost result room.new }
-        ensures bytes { ReadConsumes (remaining self.old) (remaining self.new) result room.new }
-        ensures gives { gives self.old result room.new self.new };
+        ensures { gives self.old result room.new self.new };
+
+    // A read gives no more bytes than there is room for.
+    ghost within: { (before after : Self) (r : Result ℕ Error) (room : List ℕ) →
+        gives before r room after → ReadsAtMost r room };
+
+    // Known bytes lose those that a read gave.
+    ghost bytes: { (before after : Self) (r : Result ℕ Error) (room : List ℕ) →
+        gives before r room after → ReadConsumes (remaining before) (remaining after) r room };
 }
 
 // As far as the standard library says what a read does.
@@ -28,6 +35,10 @@ impl<R: Read> Source for R {
 
     ghost gives = { λ before r room after.
         ReadsAtMost r room × ReadConsumes (R.remaining before) (R.remaining after) r room };
+
+    ghost within = { λ before after r room given. given.0 };
+
+    ghost bytes = { λ before after r room given. given.1 };
 
     fn read_once(&mut self, room: &mut [u8]) -> io::Result<usize> {
         self.read(room)

@@ -37,7 +37,8 @@ refusal_in (Ok start) = Ok (Some start)
 refusal_in (Err (Refused e)) = Err e
 refusal_in (Err UnknownScheme) = Ok None
 
--- begin refuses by the plan's list; where it refuses nothing, the scheme is not known, or a key begins
+-- begin refuses by the plan's list; where it refuses nothing, the scheme is not known or a key
+-- begins
 pub record StartRefuses (hash code height : ℕ) (r : Result Start NotBegun) : Type 0 where
   pub refused : Refuses (plan_causes height) (refusal_in r)
   pub unknown : (r ≡ Err UnknownScheme) ↔ (NoCause (plan_causes height) × UnknownNumbers hash code)

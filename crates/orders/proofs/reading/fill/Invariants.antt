@@ -1,13 +1,10 @@
 use Rattle.std.proofs.Common.{◌-◌, ◌≤◌, length, take}
-use Rattle.std.specs.Io.KnownBytes.{Consumes}
 use Rattle.orders.specs.Reading.{Gave}
 use Rattle.orders.proofs.reading.fill.Given as goal
 
 abbrev pub invariant-loop-filled : goal.invariant-loop-filled
 invariant-loop-filled g l =
-    (l.filled ≤ length l.room)
-    × Consumes (g.S.Source.remaining l.initial.input) (g.S.Source.remaining l.input) (take l.filled l.room)
-    × Gave g.S.Source.gives l.initial.input (take l.filled l.room) l.input
+    (l.filled ≤ length l.room) × Gave g.S.Source.gives l.initial.input (take l.filled l.room) l.input
 
 abbrev pub decreases-loop-filled : goal.decreases-loop-filled
 decreases-loop-filled g l = length l.initial.room - l.filled
