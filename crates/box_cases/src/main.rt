@@ -34,20 +34,21 @@ const CASES: [&str; 22] = [
     "many_orders",
 ];
 
-// After how many bytes a reader fails, and how. The first is asked for no more.
-const FAILURES: [(u32, ErrorKind); 12] = [
-    (65_536, ErrorKind::Other),
-    (65_535, ErrorKind::Other),
-    (50_000, ErrorKind::WouldBlock),
-    (32_769, ErrorKind::TimedOut),
-    (32_768, ErrorKind::InvalidData),
-    (20_000, ErrorKind::UnexpectedEof),
-    (10_000, ErrorKind::OutOfMemory),
-    (5_000, ErrorKind::NotConnected),
-    (1_000, ErrorKind::ConnectionReset),
-    (100, ErrorKind::PermissionDenied),
-    (1, ErrorKind::Unsupported),
-    (0, ErrorKind::BrokenPipe),
+// After how many bytes a reader fails, and how.
+const PLACES: [u32; 4] = [0, 1, 32_769, 65_535];
+
+const ERRORS: [ErrorKind; 11] = [
+    ErrorKind::NotFound,
+    ErrorKind::PermissionDenied,
+    ErrorKind::ConnectionReset,
+    ErrorKind::NotConnected,
+    ErrorKind::BrokenPipe,
+    ErrorKind::WouldBlock,
+    ErrorKind::InvalidData,
+    ErrorKind::TimedOut,
+    ErrorKind::UnexpectedEof,
+    ErrorKind::OutOfMemory,
+    ErrorKind::Other,
 ];
 
 // The longest case, read by a reader that falters: its report, or the error.
@@ -75,8 +76,12 @@ fn main(rt: HostRuntime) -> anyhow::Result<()> {
         println!(rt; "{case}")?;
         print!(rt; "{report}")?;
     }
-    for (bytes, error) in FAILURES {
-        falter(rt, &mut room, bytes, error)?;
+    // as many bytes as are read: no read comes after them
+    falter(rt, &mut room, 65_536, ErrorKind::Other)?;
+    for bytes in PLACES {
+        for error in ERRORS {
+            falter(rt, &mut room, bytes, error)?;
+        }
     }
     Ok(())
 }
