@@ -4,7 +4,7 @@ use std::io::{self, ErrorKind, Read};
 
 /// Gives the bytes of another reader one by one, each after a read that is interrupted, and fails after some bytes.
 #[derive(Drop)]
-pub struct Faltering<R> {
+pub(crate) struct Faltering<R> {
     inner: R,
     left: u32,
     error: ErrorKind,
@@ -13,7 +13,7 @@ pub struct Faltering<R> {
 
 impl<R: Read> Faltering<R> {
     /// Fails with `error` once it gave this many bytes of `inner`.
-    pub fn new(inner: R, bytes: u32, error: ErrorKind) -> Faltering<R> {
+    pub(crate) fn new(inner: R, bytes: u32, error: ErrorKind) -> Faltering<R> {
         Faltering {
             inner,
             left: bytes,

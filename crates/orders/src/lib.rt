@@ -4,6 +4,7 @@
 mod checking;
 mod key;
 mod order;
+mod printing;
 mod reading;
 mod records;
 mod report;
@@ -13,6 +14,7 @@ mod tour;
 pub use checking::{check, report_of};
 pub use key::KeySummary;
 pub use order::Order;
+pub use printing::print_report;
 pub use reading::LIMIT;
 pub use report::Report;
 pub use source::Source;

@@ -1,6 +1,6 @@
 -- The names that numbers have.
 -- Assumes nothing.
-use Rattle.std.proofs.Common.{◌≡◌, ℕ, ◌⊎◌, inl, inr, ⊎_elim, ◌↔◌, Ok, Err, is_err, IsErr, refl, sym, ap, ◌∙◌}
+use Rattle.std.proofs.Common.{◌≡◌, ℕ, ◌⊎◌, inl, inr, ⊎_elim, ◌↔◌, Ok, Err, is_err, IsErr, refl, sym, ap, ◌∙◌, Result, if◌then◌else◌, ◌==◌}
 use Rattle.std.proofs.lemmas.Bool.{false≢true, cases_eq, eq-eqb, ne_eqb}
 use Rattle.verifier.specs.Rules.{after}
 use Rattle.schemes.specs.Names.{hash_named, code_named, hash_name, code_name, scheme_numbered, no_such, UnknownNumbers}
@@ -8,6 +8,7 @@ use Rattle.schemes.specs.declared.names.HashName.{HashName}
 use Rattle.schemes.specs.declared.names.HashName.TheVariants.{Sha256, Aes128, Practice}
 use Rattle.schemes.specs.declared.names.CodeName.{CodeName}
 use Rattle.schemes.specs.declared.names.CodeName.TheVariants.{LamportDiffie, Winternitz2, Winternitz4}
+use Rattle.schemes.specs.declared.unknown.UnknownScheme.{UnknownScheme}
 
 hash-itself : (hash : HashName) → hash_name (hash_named hash).number ≡ Ok hash
 hash-itself Sha256 = refl
@@ -25,32 +26,35 @@ same-code c d e =
     let other : code_name (code_named c).number ≡ Ok d = ap code_name e ∙ code-itself d in
     cc
 
--- a hash has the number, or none has
-hash-either : (n : ℕ) → ((hash : HashName) × (hash_name n ≡ Ok hash) × ((hash_named hash).number ≡ n)) ⊎ ((hash_name n ≡ Err no_such) × ((hash : HashName) → (hash_named hash).number ≡ n → ⊥))
-hash-either n =
-    elim (cases_eq n 1) [
-      | inl a ↦ inl (Sha256, rw (eq-eqb n 1 a) refl, sym a)
-      | inr a ↦ elim (cases_eq n 2) [
-        | inl b ↦ inl (Aes128, rw (ne_eqb n 1 a, eq-eqb n 2 b) refl, sym b)
-        | inr b ↦ elim (cases_eq n 3) [
-          | inl c ↦ inl (Practice, rw (ne_eqb n 1 a, ne_eqb n 2 b, eq-eqb n 3 c) refl, sym c)
-          | inr c ↦ inr (rw (ne_eqb n 1 a, ne_eqb n 2 b, ne_eqb n 3 c) refl, elim [ Sha256 ↦ λ e. a (sym e) | Aes128 ↦ λ e. b (sym e) | Practice ↦ λ e. c (sym e) ])
+-- one of three has the number, or none has
+module _ {A : Type 0} (number : A → ℕ) (x y z : A) (three : (P : A → Type 0) → P x → P y → P z → (a : A) → P a) where
+  name : ℕ → Result A UnknownScheme
+  name n =
+      if n == number x then Ok x else
+      if n == number y then Ok y else
+      if n == number z then Ok z else Err no_such
+
+  one-of-three : (n : ℕ) → ((a : A) × (name n ≡ Ok a) × (number a ≡ n)) ⊎ ((name n ≡ Err no_such) × ((a : A) → number a ≡ n → ⊥))
+  unfolding name
+  one-of-three n =
+      elim (cases_eq n (number x)) [
+        | inl e ↦ inl (x, rw (eq-eqb n (number x) e) refl, sym e)
+        | inr d ↦ elim (cases_eq n (number y)) [
+          | inl e ↦ inl (y, rw (ne_eqb n (number x) d, eq-eqb n (number y) e) refl, sym e)
+          | inr f ↦ elim (cases_eq n (number z)) [
+            | inl e ↦ inl (z, rw (ne_eqb n (number x) d, ne_eqb n (number y) f, eq-eqb n (number z) e) refl, sym e)
+            | inr g ↦ inr (rw (ne_eqb n (number x) d, ne_eqb n (number y) f, ne_eqb n (number z) g) refl, three (λ a. number a ≡ n → ⊥) (λ e. d (sym e)) (λ e. f (sym e)) (λ e. g (sym e)))
+          ]
         ]
       ]
-    ]
+
+hash-either : (n : ℕ) → ((hash : HashName) × (hash_name n ≡ Ok hash) × ((hash_named hash).number ≡ n)) ⊎ ((hash_name n ≡ Err no_such) × ((hash : HashName) → (hash_named hash).number ≡ n → ⊥))
+unfolding name
+hash-either = one-of-three (λ hash. (hash_named hash).number) Sha256 Aes128 Practice (λ P p q r. elim [ Sha256 ↦ p | Aes128 ↦ q | Practice ↦ r ])
 
 code-either : (n : ℕ) → ((code : CodeName) × (code_name n ≡ Ok code) × ((code_named code).number ≡ n)) ⊎ ((code_name n ≡ Err no_such) × ((code : CodeName) → (code_named code).number ≡ n → ⊥))
-code-either n =
-    elim (cases_eq n 1) [
-      | inl a ↦ inl (LamportDiffie, rw (eq-eqb n 1 a) refl, sym a)
-      | inr a ↦ elim (cases_eq n 2) [
-        | inl b ↦ inl (Winternitz2, rw (ne_eqb n 1 a, eq-eqb n 2 b) refl, sym b)
-        | inr b ↦ elim (cases_eq n 3) [
-          | inl c ↦ inl (Winternitz4, rw (ne_eqb n 1 a, ne_eqb n 2 b, eq-eqb n 3 c) refl, sym c)
-          | inr c ↦ inr (rw (ne_eqb n 1 a, ne_eqb n 2 b, ne_eqb n 3 c) refl, elim [ LamportDiffie ↦ λ e. a (sym e) | Winternitz2 ↦ λ e. b (sym e) | Winternitz4 ↦ λ e. c (sym e) ])
-        ]
-      ]
-    ]
+unfolding name
+code-either = one-of-three (λ code. (code_named code).number) LamportDiffie Winternitz2 Winternitz4 (λ P p q r. elim [ LamportDiffie ↦ p | Winternitz2 ↦ q | Winternitz4 ↦ r ])
 
 named : (a b : ℕ) (hash : HashName) (code : CodeName) → hash_name a ≡ Ok hash → code_name b ≡ Ok code → scheme_numbered a b ≡ Ok (record { hash = hash; code = code })
 named a b hash code h c =
