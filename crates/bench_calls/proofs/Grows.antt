@@ -1,5 +1,4 @@
 -- Calls of grow, counted.
--- Assumes nothing.
 use Rattle.std.proofs.Common.{◌≡◌, ℕ, ◌+◌, sym, refl, ap, add-one}
 use Rattle.histories.specs.Rules.{grow_leaves}
 use Rattle.histories.specs.States.{Making}

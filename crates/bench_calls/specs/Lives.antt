@@ -1,5 +1,4 @@
 -- What the calls on whole keys answer and leave: each lives a key's life from its source on, by the rules of verifier and signer.
--- Assumes nothing.
 use Rattle.std.specs.Prelude.{ℕ, false, true, zero, suc, List, replicate, Some, None, Ok, Err, Option, Result}
 use Rattle.growth.specs.declared.origin.Origin.{Origin}
 use Rattle.histories.specs.Rules.{plan_rule, begin_rule, grow_leaves, held_rule, finish_rule, key_answer, key_output, sign_answer, sign_state, sign_output, skip_state, trace_answer, trace_report}

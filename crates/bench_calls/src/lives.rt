@@ -45,7 +45,7 @@ fn begin<H: TreeHash, C: Code>(source: &Source) -> Result<Maker<H, C>, Refusal>
 
 // Calls grow as often as `leaves` says.
 fn grow_on<H: TreeHash, C: Code>(maker: &mut Maker<H, C>, leaves: u16)
-    ensures { making_of maker.new ≡ grows (hash_of H.ChainHash H.TreeHash.own) (code_of C.Code)
+    ensures { making_of maker.new ≡ grows (hash_of H.TreeHash) (code_of C.Code)
         leaves (making_of maker.old) }
 {
     let mut work = [0; 4096];
@@ -89,7 +89,7 @@ fn finish<H: TreeHash, C: Code>(
     source: &Source,
     work: &mut [u8; 4096],
 ) -> Result<Signer<H, C>, Refusal>
-    ensures { seen signing_of result ≡ finished (hash_of H.ChainHash H.TreeHash.own)
+    ensures { seen signing_of result ≡ finished (hash_of H.TreeHash)
         (code_of C.Code) source.now }
 {
     let maker = begin::<H, C>(source)?;
@@ -127,7 +127,7 @@ fn serve<H: TreeHash, C: Code>(
     leaf: u16,
     work: &mut [u8; 4096],
 ) -> Result<Signer<H, C>, Refusal>
-    ensures { seen signing_of result ≡ serving (hash_of H.ChainHash H.TreeHash.own) (code_of C.Code)
+    ensures { seen signing_of result ≡ serving (hash_of H.TreeHash) (code_of C.Code)
         source.now leaf }
 {
     let mut signer = finish::<H, C>(source, work)?;

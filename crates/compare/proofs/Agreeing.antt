@@ -1,12 +1,11 @@
 -- What each side has along a chain, at the bottom of the leaf, beside the way up and in the whole row.
--- Assumes nothing.
 use Rattle.std.proofs.Common.{◌≡◌, ℕ, ◌+◌, ◌-◌, ◌*◌, ◌/◌, ◌^◌, ◌<◌, ◌≤◌, ltb, List, length, sym, ap, ◌∙◌, subst, ⊎_elim, arith, lt-ltb, rules}
 use Rattle.std.proofs.lemmas.Bool.{cases_lt, cond-true}
 use Rattle.strings.specs.Strings.{string_at}
 use Rattle.tree.specs.Meaning.{Hash, Code}
-use Rattle.tree.specs.Nodes.{raise, node, one_time}
+use Rattle.tree.specs.Nodes.{raise, node, one_time, parent_at}
 use Rattle.tree.proofs.Laws.{raise-none, raise-more, node-bottom, one-time-chain}
-use Rattle.growth.specs.Grown.{secret, leaf_string, parent_at}
+use Rattle.growth.specs.Grown.{secret, leaf_string, parameters}
 use Rattle.growth.specs.Shown.{sibling_of, shown_string, shown_row}
 use Rattle.growth.proofs.Trees.{node-up}
 use Rattle.growth.proofs.Strings.{row_at, row-long, shown-str}
@@ -55,10 +54,10 @@ module _ (hash : Hash) (code : Code) (t : Traced) where
   abbrev pub their_string : ℕ → List ℕ
   their_string = one_time step code.count code.top (code.digit t.stamp) (string_at t.row)
 
-  bottom-is : (f : ℕ → List ℕ) (k : ℕ) → node (parent_at hash t.origin) f (h + l) (l - l) k ≡ f k
+  bottom-is : (f : ℕ → List ℕ) (k : ℕ) → node (parent_at hash (parameters t.origin)) f (h + l) (l - l) k ≡ f k
   bottom-is f k =
       let none : l - l ≡ 0 = omega arith in
-      ap (λ d. node (parent_at hash t.origin) f (h + l) d k) none ∙ node-bottom (parent_at hash t.origin) f (h + l) k
+      ap (λ d. node (parent_at hash (parameters t.origin)) f (h + l) d k) none ∙ node-bottom (parent_at hash (parameters t.origin)) f (h + l) k
 
   pub our-bottom : (k : ℕ) → k < 2 ^ l → our_node hash code t (h + l) (t.leaf * 2 ^ l + k) ≡ leaf_string hash code t.origin t.leaf k
   our-bottom k lt = our-inner hash code t l k (omega arith) lt ∙ bottom-is (leaf_string hash code t.origin t.leaf) k
@@ -85,7 +84,7 @@ module _ (hash : Hash) (code : Code) (t : Traced) where
   same-below l within siblings level a b inner near =
       below-near h t.leaf l SameNode (λ e lt. siblings e lt ∙ sym (their-sibling e lt)) level
       (λ a b inner near left right.
-      node-up hash code t.origin a b (omega arith) ∙ (λ i. parent_at hash t.origin a (left i) (right i)) ∙ sym (their-parent hash code t a b (omega arith) near))
+      node-up hash code t.origin a b (omega arith) ∙ (λ i. parent_at hash (parameters t.origin) a (left i) (right i)) ∙ sym (their-parent hash code t a b (omega arith) near))
       a b inner near
 
   -- what a release of the leaf shows for the stamp

@@ -1,5 +1,4 @@
 -- What is found, and what a report of it holds.
--- Assumes nothing.
 use Rattle.std.proofs.Common.{◌≡◌, ℕ, ◌+◌, ◌*◌, ◌≤◌, List, length, take, drop, sym, ap, ◌∙◌}
 use Rattle.strings.specs.Strings.{Bytes, string_at, zero_string}
 use Rattle.tree.specs.Meaning.{Hash, Code}

@@ -1,5 +1,4 @@
 -- The laws of a search for the first find, and for the last.
--- Assumes nothing.
 use Rattle.std.proofs.Common.{◌≡◌, ℕ, zero, suc, ◌+◌, ◌<◌, Some, None, Option, sym, refl, ap, ◌∙◌, add-zero, zero-add, add-one, arith}
 use Rattle.std.specs.Option.{option_or}
 use Rattle.compare.specs.Search.{first_from, last_from}

@@ -1,5 +1,4 @@
 -- One parent more of a row of strings, and the levels of a leaf on both sides.
--- Assumes nothing.
 use Rattle.std.proofs.Common.{◌≡◌, ℕ, ◌+◌, ◌-◌, ◌*◌, ◌^◌, ◌<◌, ◌≤◌, List, ap, ◌∙◌, arith, rules}
 use Rattle.tree.specs.Nodes.{join, node}
 use Rattle.tree.proofs.Laws.{fold-none, fold_more, double-pow}

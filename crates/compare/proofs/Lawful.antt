@@ -1,5 +1,4 @@
 -- What a hash and a code are taken to obey, whatever key is grown with them.
--- Assumes nothing.
 use Rattle.std.proofs.Common.{◌≡◌, ℕ, ◌^◌, ◌<◌, ◌≤◌, List}
 use Rattle.strings.specs.Strings.{Str}
 use Rattle.tree.specs.Meaning.{Hash, Code}

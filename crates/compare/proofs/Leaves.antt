@@ -1,14 +1,13 @@
 -- The nodes within the leaf, over rows that hold its one-time strings on both sides.
--- Assumes nothing.
 use Rattle.std.proofs.Common.{◌≡◌, ℕ, ◌+◌, ◌-◌, ◌*◌, ◌/◌, ◌^◌, ◌<◌, ◌≤◌, List, Option, sym, ap, ◌∙◌, mul_assoc, arith, pow_mono}
 use lib.Arith.{digits_lt}
 use Rattle.std.proofs.lemmas.Nat.{pow-add}
 use Rattle.std.proofs.lemmas.Grind.{pow_more}
 use Rattle.std.specs.Option.{option_or}
 use Rattle.tree.specs.Meaning.{Hash, Code}
-use Rattle.tree.specs.Nodes.{node}
+use Rattle.tree.specs.Nodes.{node, parent_at}
 use Rattle.tree.proofs.Laws.{node-moved}
-use Rattle.growth.specs.Grown.{leaf_string, parent_at}
+use Rattle.growth.specs.Grown.{leaf_string, parameters}
 use Rattle.growth.proofs.Paths.{shr-none}
 use Rattle.compare.specs.Search.{first_from, child_find, depth_search, node_find_at, level_search, node_search}
 use Rattle.compare.specs.Sides.{Traced, our_node, their_node, their_one_time}
@@ -29,7 +28,7 @@ module _ (hash : Hash) (code : Code) (t : Traced) where
   l = code.levels
 
   abbrev parent : ℕ → List ℕ → List ℕ → List ℕ
-  parent = parent_at hash t.origin
+  parent = parent_at hash (parameters t.origin)
 
   -- of one side, whose strings a row holds: its node c levels below the leaf's, at level a and position n
   node-is : l ≤ 8 → (side : ℕ → ℕ → List ℕ) (strings row : ℕ → List ℕ) → ((c q : ℕ) → c ≤ l → q < 2 ^ c → side (h + c) (t.leaf * 2 ^ c + q) ≡ node parent strings (h + c) (l - c) q) → ((k : ℕ) → k < 256 → row k ≡ strings k) → (c q a n : ℕ) → c ≤ l → q < 2 ^ c → h + c ≡ a → t.leaf * 2 ^ c + q ≡ n → node parent row a (l - c) q ≡ side a n

@@ -1,5 +1,4 @@
 -- The nodes of the two sides: each the parent of two below it, and within the leaf.
--- Assumes nothing.
 use Rattle.std.proofs.Common.{◌≡◌, ℕ, zero, suc, ◌+◌, ◌-◌, ◌*◌, ◌/◌, ◌%◌, ◌^◌, ◌<◌, ◌≤◌, eqb, leb, List, sym, refl, ap, ◌∙◌, ⊎_elim, mul_assoc, add-mul, arith, rules}
 use native.Mathlib.Nat.{div-eq_of_lt}
 use lib.Arith.{digits_lt, digits_div, digits_mod}
@@ -7,10 +6,10 @@ use Rattle.std.proofs.lemmas.Nat.{pow-add, shr-shr}
 use Rattle.std.proofs.lemmas.Bool.{cases_lt, cond-true, cond-false, eq-eqb, ne_eqb, le-leb, lt-leb}
 use Rattle.strings.specs.Strings.{string_at}
 use Rattle.tree.specs.Meaning.{Hash, Code}
-use Rattle.tree.specs.Nodes.{node, above, climb, one_time}
+use Rattle.tree.specs.Nodes.{node, above, climb, one_time, parent_at}
 use Rattle.tree.specs.Rebuilt.{rebuilt}
 use Rattle.tree.proofs.Laws.{node-moved, node-parent, above-both, climb-root, climb-turn}
-use Rattle.growth.specs.Grown.{leaf_string, bottom, parent_at}
+use Rattle.growth.specs.Grown.{leaf_string, bottom, parameters}
 use Rattle.growth.proofs.Paths.{shr-none}
 use Rattle.compare.specs.Sides.{Traced, given, our_node, their_bottom, their_leaf, their_sibling, their_node}
 
@@ -50,7 +49,7 @@ module _ (hash : Hash) (code : Code) (t : Traced) where
   l = code.levels
 
   abbrev parent : ℕ → List ℕ → List ℕ → List ℕ
-  parent = parent_at hash t.origin
+  parent = parent_at hash (parameters t.origin)
 
   -- the signer's nodes within the leaf
   pub our-inner : (c q : ℕ) → c ≤ l → q < 2 ^ c → our_node hash code t (h + c) (t.leaf * 2 ^ c + q) ≡ node parent (leaf_string hash code t.origin t.leaf) (h + c) (l - c) q

@@ -1,5 +1,4 @@
 -- The search finds what trace is to find, and nothing else.
--- Assumes nothing.
 use Rattle.std.proofs.Common.{◌≡◌, ℕ, zero, suc, ◌+◌, ◌-◌, ◌/◌, ◌^◌, ◌<◌, ◌≤◌, Bool, true, false, ◌⊎◌, Some, None, Decides, Option, sym, refl, ◌∙◌, subst, inl, inr, ⊎_elim, add-one, arith, MatchOption, rules}
 use Rattle.std.specs.Option.{option_or}
 use Rattle.std.specs.Bool.{then_some}

@@ -1,5 +1,4 @@
 -- What both sides are made of are strings.
--- Assumes nothing.
 use Rattle.std.proofs.Common.{◌≡◌, ℕ, ◌+◌, ◌-◌, ◌*◌, ◌<◌, ◌≤◌, List, length, sym, subst, arith}
 use Rattle.strings.specs.Strings.{Bytes, Str, string_at}
 use Rattle.strings.proofs.Laws.{string_at-str}

@@ -1,5 +1,4 @@
 -- What trace finds: the first of these, in this order.
--- Assumes nothing.
 use Rattle.std.specs.Prelude.{◌≡◌, ℕ, ◌+◌, ◌-◌, ◌/◌, ◌^◌, ◌<◌, ◌≤◌, ◌⊎◌, List, ◌++◌, replicate}
 use Rattle.strings.specs.Strings.{zero_string}
 use Rattle.tree.specs.Meaning.{Hash, Code}

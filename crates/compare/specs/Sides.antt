@@ -1,10 +1,9 @@
 -- The two sides of a comparison at one leaf: what the signer's seed gives, and what a release record gives.
--- Assumes nothing.
 use Rattle.std.specs.Prelude.{ℕ, zero, suc, ◌+◌, ◌-◌, ◌*◌, ◌/◌, ◌%◌, ◌^◌, if◌then◌else◌, List, Some, None, Option, ◌==◌, nat_le}
 use Rattle.strings.specs.Strings.{xor, string_at}
 use Rattle.tree.specs.Meaning.{Hash, Code}
-use Rattle.tree.specs.Nodes.{raise, node, one_time}
-use Rattle.growth.specs.Grown.{chain_string, parent_at, node_at}
+use Rattle.tree.specs.Nodes.{raise, node, one_time, parent_at}
+use Rattle.growth.specs.Grown.{chain_string, parameters, node_at}
 use Rattle.growth.specs.declared.origin.Origin.{Origin}
 
 -- what is compared: a record's leaf number and its row of strings, for a stamp; on the signer's side what the tree is grown
@@ -51,7 +50,7 @@ module _ (hash : Hash) (code : Code) (t : Traced) where
   their_bottom p = their_one_time (p % 2 ^ code.levels)
 
   abbrev pub their_leaf : List ℕ
-  their_leaf = node (parent_at hash t.origin) their_bottom t.origin.height code.levels t.leaf
+  their_leaf = node (parent_at hash (parameters t.origin)) their_bottom t.origin.height code.levels t.leaf
 
   abbrev pub their_sibling : ℕ → List ℕ
   their_sibling a = string_at t.row (code.count + (t.origin.height - a))
@@ -60,8 +59,8 @@ module _ (hash : Hash) (code : Code) (t : Traced) where
   abbrev pub their_node : ℕ → ℕ → List ℕ
   their_node a b =
       if nat_le a t.origin.height
-      then given (parent_at hash t.origin) their_sibling their_leaf t.origin.height t.leaf (t.origin.height - a) b
-      else node (parent_at hash t.origin) their_bottom a (t.origin.height + code.levels - a) b
+      then given (parent_at hash (parameters t.origin)) their_sibling their_leaf t.origin.height t.leaf (t.origin.height - a) b
+      else node (parent_at hash (parameters t.origin)) their_bottom a (t.origin.height + code.levels - a) b
 
   -- the two inputs of pair at level a, position b, of a side: its children under the masks of level a
   abbrev pub left_input : (ℕ → ℕ → List ℕ) → ℕ → ℕ → List ℕ

@@ -1,5 +1,4 @@
 -- What the types of this crate stand for.
--- Assumes nothing.
 use Rattle.compare.specs.Sides.{Traced}
 use Rattle.codes.specs.declared.Code.{Ghosts}
 use Rattle.compare.specs.declared.subject.Subject.{Subject}

@@ -111,13 +111,13 @@ impl<H: TreeHash, C: Code> Subject<'_, H, C> {
     // Compares a chain of the leaf.
     fn compare_chain(&self, chain: u16) -> Chain
         requires { chain < C.Code.COUNT }
-        ensures ours { result.top.ours ≡ our_chain (hash_of H.ChainHash H.TreeHash.own)
+        ensures ours { result.top.ours ≡ our_chain (hash_of H.TreeHash)
             (code_of C.Code) (traced_of self.now) chain C.Code.TOP }
-        ensures theirs { result.top.theirs ≡ their_chain (hash_of H.ChainHash H.TreeHash.own)
+        ensures theirs { result.top.theirs ≡ their_chain (hash_of H.TreeHash)
             (code_of C.Code) (traced_of self.now) chain C.Code.TOP }
-        ensures broken { result.broken ≡ height_search (hash_of H.ChainHash H.TreeHash.own)
+        ensures broken { result.broken ≡ height_search (hash_of H.TreeHash)
             (code_of C.Code) (traced_of self.now) chain }
-        ensures hidden { result.hidden ≡ hidden_find_at (hash_of H.ChainHash H.TreeHash.own)
+        ensures hidden { result.hidden ≡ hidden_find_at (hash_of H.TreeHash)
             (code_of C.Code) (traced_of self.now) chain }
     {
         let place = chain as usize;
@@ -138,14 +138,14 @@ impl<H: TreeHash, C: Code> Subject<'_, H, C> {
     /// Compares the chains of the leaf, and fills two rows with its one-time strings: the signer's and the record's.
     pub(crate) fn compare_chains(&self, ours: &mut [u8; 4096], theirs: &mut [u8; 4096]) -> Chains
         ensures ours { (k : ℕ) → k < 256 →
-            string_at ours.new k ≡ leaf_string (hash_of H.ChainHash H.TreeHash.own) (code_of C.Code)
+            string_at ours.new k ≡ leaf_string (hash_of H.TreeHash) (code_of C.Code)
             (traced_of self.now).origin self.now.leaf k }
         ensures theirs { (k : ℕ) → k < 256 →
-            string_at theirs.new k ≡ their_one_time (hash_of H.ChainHash H.TreeHash.own)
+            string_at theirs.new k ≡ their_one_time (hash_of H.TreeHash)
             (code_of C.Code) (traced_of self.now) k }
-        ensures broken { result.broken ≡ chain_search (hash_of H.ChainHash H.TreeHash.own)
+        ensures broken { result.broken ≡ chain_search (hash_of H.TreeHash)
             (code_of C.Code) (traced_of self.now) }
-        ensures hidden { result.hidden ≡ hidden_search (hash_of H.ChainHash H.TreeHash.own)
+        ensures hidden { result.hidden ≡ hidden_search (hash_of H.TreeHash)
             (code_of C.Code) (traced_of self.now) }
     {
         *ours = [0; 4096];

@@ -33,12 +33,12 @@ fn choose(node: Option<Find>, chain: Option<Find>, hidden: Option<Find>) -> Verd
 impl<H: TreeHash, C: Code> Subject<'_, H, C> {
     /// Compares the record with what the signer's seed and ledger give for its leaf. The work buffer is used up.
     pub fn compare(&self, work: &mut [u8; 4096]) -> Comparison
-        ensures root { result.root ≡ rebuilt (hash_of H.ChainHash H.TreeHash.own) (code_of C.Code)
+        ensures root { result.root ≡ rebuilt (hash_of H.TreeHash) (code_of C.Code)
             self.now.tree.origin.now.hash_key self.now.tree.origin.now.masks
             self.now.tree.origin.now.height self.now.leaf self.now.stamp.now self.now.row.now }
-        ensures verdict { result.verdict ≡ found (hash_of H.ChainHash H.TreeHash.own)
+        ensures verdict { result.verdict ≡ found (hash_of H.TreeHash)
             (code_of C.Code) (traced_of self.now) }
-        ensures first { Found (hash_of H.ChainHash H.TreeHash.own) (code_of C.Code)
+        ensures first { Found (hash_of H.TreeHash) (code_of C.Code)
             (traced_of self.now) result.verdict }
     {
         let mut theirs = [0; 4096];

@@ -20,15 +20,15 @@ impl<H: TreeHash, C: Code> Subject<'_, H, C> {
     fn climb_one(&self, level: usize, position: u16, at: &Sides, work: &mut [u8; 4096]) -> Compared
         requires under { level < self.now.tree.origin.now.height }
         requires place { position ≡ self.now.leaf / 2 ^ (self.now.tree.origin.now.height - (level + 1)) }
-        requires ours { at.now.ours ≡ our_node (hash_of H.ChainHash H.TreeHash.own) (code_of C.Code)
+        requires ours { at.now.ours ≡ our_node (hash_of H.TreeHash) (code_of C.Code)
             (traced_of self.now) (level + 1) position }
-        requires theirs { at.now.theirs ≡ their_node (hash_of H.ChainHash H.TreeHash.own)
+        requires theirs { at.now.theirs ≡ their_node (hash_of H.TreeHash)
             (code_of C.Code) (traced_of self.now) (level + 1) position }
-        ensures ours { result.sides.ours ≡ our_node (hash_of H.ChainHash H.TreeHash.own)
+        ensures ours { result.sides.ours ≡ our_node (hash_of H.TreeHash)
             (code_of C.Code) (traced_of self.now) level (position / 2) }
-        ensures theirs { result.sides.theirs ≡ their_node (hash_of H.ChainHash H.TreeHash.own)
+        ensures theirs { result.sides.theirs ≡ their_node (hash_of H.TreeHash)
             (code_of C.Code) (traced_of self.now) level (position / 2) }
-        ensures find { result.find ≡ node_find_at (hash_of H.ChainHash H.TreeHash.own)
+        ensures find { result.find ≡ node_find_at (hash_of H.TreeHash)
             (code_of C.Code) (traced_of self.now) level (position / 2) }
     {
         let our_sibling = self.tree.grow_node(level + 1, sibling(position), work);
@@ -43,15 +43,15 @@ impl<H: TreeHash, C: Code> Subject<'_, H, C> {
     /// The root on both sides, from the leaf's node on both, and the first node on the way that hides that its children
     /// differ. The work buffer is used up.
     pub(crate) fn climb_to_root(&self, leaf_node: &Sides, work: &mut [u8; 4096]) -> Compared
-        requires ours { leaf_node.now.ours ≡ our_node (hash_of H.ChainHash H.TreeHash.own)
+        requires ours { leaf_node.now.ours ≡ our_node (hash_of H.TreeHash)
             (code_of C.Code) (traced_of self.now) self.now.tree.origin.now.height self.now.leaf }
-        requires theirs { leaf_node.now.theirs ≡ their_node (hash_of H.ChainHash H.TreeHash.own)
+        requires theirs { leaf_node.now.theirs ≡ their_node (hash_of H.TreeHash)
             (code_of C.Code) (traced_of self.now) self.now.tree.origin.now.height self.now.leaf }
-        ensures ours { result.sides.ours ≡ our_node (hash_of H.ChainHash H.TreeHash.own)
+        ensures ours { result.sides.ours ≡ our_node (hash_of H.TreeHash)
             (code_of C.Code) (traced_of self.now) 0 0 }
-        ensures theirs { result.sides.theirs ≡ their_node (hash_of H.ChainHash H.TreeHash.own)
+        ensures theirs { result.sides.theirs ≡ their_node (hash_of H.TreeHash)
             (code_of C.Code) (traced_of self.now) 0 0 }
-        ensures find { result.find ≡ first_from (level_search (hash_of H.ChainHash H.TreeHash.own)
+        ensures find { result.find ≡ first_from (level_search (hash_of H.TreeHash)
             (code_of C.Code) (traced_of self.now)) 0 self.now.tree.origin.now.height }
     {
         let height = self.tree.origin.height as usize;

@@ -1,5 +1,4 @@
 -- The examples up to the signer, each by computing it.
--- Assumes nothing.
 use Rattle.std.proofs.Common.{refl}
 use Rattle.std.specs.List.{AllByRecursion}
 use Rattle.codes.specs.Codes.{checksum, ending, cut}

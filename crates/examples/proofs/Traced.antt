@@ -1,5 +1,4 @@
 -- The examples of trace: the signer and its records are computed once, and then each trace over them.
--- Assumes nothing.
 use Rattle.std.proofs.Common.{◌≡◌, ℕ, zero, suc, ◌+◌, ◌-◌, ◌*◌, ◌/◌, ◌%◌, ◌^◌, ◌<◌, ◌≤◌, cond, eqb, ltb, List, [], ◌∷◌, map, get_or, set, replicate, Some, None, Ok, sym, refl, ap, ◌∙◌, subst, zero-add, arith, lit≤}
 use Rattle.std.specs.List.{range_with_len, flat_map, AllByRecursion}
 use Rattle.std.proofs.lemmas.List.FromFn.{get_or-map-range_with_len}

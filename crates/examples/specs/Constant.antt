@@ -1,5 +1,4 @@
 -- A hash may be constant; a code may not be blind to the stamp.
--- Assumes nothing.
 use Rattle.std.specs.Prelude.{ℕ, List}
 use Rattle.std.proofs.Common.{rules}
 use Rattle.strings.specs.Strings.{Str, zero_string}

@@ -1,5 +1,4 @@
 -- Worked examples: what is computed, and what it must be.
--- Assumes nothing.
 use Rattle.std.specs.Prelude.{◌≡◌, ℕ, List, [], ◌∷◌, ◌++◌, map, take, replicate, Ok, Err, Result}
 use Rattle.std.specs.List.{range_with_len, flat_map, AllByRecursion}
 use Rattle.strings.specs.Strings.{string_at, put_string}

@@ -1,5 +1,4 @@
 -- What the examples are about: the practice hash, the three codes, and a signer grown from zeros.
--- Assumes nothing.
 use Rattle.std.specs.Prelude.{ℕ, List, ◌∷◌, replicate}
 use Rattle.hashes.specs.contracts.practice.PracticeChainHash.TheImpl as practice_chain
 use Rattle.hashes.specs.contracts.practice.PracticeTreeHash.TheImpl as practice_tree
@@ -9,7 +8,7 @@ use Rattle.codes.specs.contracts.widths.TwoBitsDigitWidth.TheImpl as two_bits_wi
 use Rattle.codes.specs.contracts.widths.FourBits as four_bits
 use Rattle.codes.specs.contracts.widths.FourBitsDigitWidth.TheImpl as four_bits_width
 use Rattle.codes.specs.contracts.winternitz.WinternitzCode.TheImpl as winternitz
-use Rattle.tree.specs.Meaning.{Hash, Code, hash_of, code_of}
+use Rattle.tree.specs.Meaning.{Hash, Code, hash_by, code_of}
 use Rattle.growth.specs.declared.origin.Origin.{Origin}
 use Rattle.histories.specs.Rules.{begin_rule, finish_rule}
 use Rattle.histories.specs.States.{Signing}
@@ -20,7 +19,7 @@ string b = b ∷ replicate 15 0
 
 -- the practice hash and the codes, as their impls state them
 abbrev pub practice : Hash
-practice = hash_of practice_chain.ghosts practice_tree.ghosts
+practice = hash_by practice_chain.ghosts practice_tree.ghosts
 
 abbrev pub code1 : Code
 code1 = code_of lamport_diffie.ghosts

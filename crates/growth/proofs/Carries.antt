@@ -1,18 +1,18 @@
 -- What is held after a leaf is added to what is held before.
--- Assumes nothing.
 use Rattle.std.proofs.Common.{◌≡◌, ℕ, zero, suc, ◌+◌, ◌-◌, ◌*◌, ◌/◌, ◌%◌, ◌^◌, ◌<◌, ◌≤◌, List, length, sym, refl, ap, ◌∙◌, subst, ⊎_elim, arith}
 use Rattle.std.proofs.lemmas.Bool.{cases_eq, cases_lt}
 use Rattle.strings.specs.Strings.{string_at, put_string, zero_string}
 use Rattle.strings.proofs.Laws.{length-put_string, at-put-same, at-put-other}
 use Rattle.tree.specs.Meaning.{Hash, Code}
-use Rattle.growth.specs.Grown.{parent_at, node_at, held_at, Holds, carry, with_leaf}
+use Rattle.tree.specs.Nodes.{parent_at}
+use Rattle.growth.specs.Grown.{parameters, node_at, held_at, Holds, carry, with_leaf}
 use Rattle.growth.specs.declared.origin.Origin.{Origin}
 use Rattle.growth.proofs.Strings.{Strings, node-str}
 use Rattle.growth.proofs.Trees.{Fills, node-up, held-unless, held-odd, held-here, held_below, held-above, not_root, fills_up, carry-odd, carry-even}
 
 module _ (hash : Hash) (code : Code) (o : Origin) (g : ℕ) where
   abbrev parent : ℕ → List ℕ → List ℕ → List ℕ
-  parent = parent_at hash o
+  parent = parent_at hash (parameters o)
 
   abbrev at : ℕ → ℕ → List ℕ
   at = node_at hash code o
@@ -98,13 +98,13 @@ module _ (hash : Hash) (code : Code) (o : Origin) (all : Strings hash o) (tall :
   long level m s row c = let le = c.within in ap length c.is ∙ (node-str hash code o all (o.height + code.levels - level) level m (omega arith)).0
 
   -- n levels from the root
-  carried : (n level m : ℕ) (s row : List ℕ) → level ≡ n → Comes hash code o g level m s row → More hash code o g (carry (parent_at hash o) level m s row)
+  carried : (n level m : ℕ) (s row : List ℕ) → level ≡ n → Comes hash code o g level m s row → More hash code o g (carry (parent_at hash (parameters o)) level m s row)
   carried zero level m s row root c = stays hash code o g tall level m s row c (long level m s row c) (λ odd. let some = not_root hash code o g m level c.within c.fills room odd in omega arith)
   carried (suc n) level m s row above c =
       ⊎_elim
       (λ (odd : m % 2 ≡ 1).
       let some = not_root hash code o g m level c.within c.fills room odd in
-      subst (More hash code o g) (sym (carry-odd (parent_at hash o) level m s row some odd)) (carried n (level - 1) (m / 2) _ _ (omega arith) (comes-above hash code o g tall level m s row c some odd)))
+      subst (More hash code o g) (sym (carry-odd (parent_at hash (parameters o)) level m s row some odd)) (carried n (level - 1) (m / 2) _ _ (omega arith) (comes-above hash code o g tall level m s row c some odd)))
       (stays hash code o g tall level m s row c (long level m s row c))
       (cases_eq (m % 2) 1)
 

@@ -1,5 +1,4 @@
 -- The nodes of a tree, level by level, and what is held of them after one leaf more.
--- Assumes nothing.
 use Rattle.std.proofs.Common.{◌≡◌, ℕ, zero, suc, ◌+◌, ◌-◌, ◌*◌, ◌/◌, ◌%◌, ◌^◌, ◌<◌, ◌≤◌, cond, ◌&&◌, eqb, leb, List, replicate, sym, refl, ap, ◌∙◌, ⊎_elim, mul_assoc, mul_comm, zero-mul, arith, rules, pow_pos}
 use native.Mathlib.Nat.{zero-div, div_self}
 use lib.Arith.{digits_div, digits_mod}
@@ -8,31 +7,31 @@ use Rattle.std.proofs.lemmas.Nat.{shr-shr, shl-shr, pow-add}
 use Rattle.std.proofs.lemmas.Bool.{cond-true, cond-false, and_from, and_left, and_right, le-leb, lt-leb, eq-eqb, ne_eqb, cases_lt}
 use Rattle.strings.specs.Strings.{zero_string, string_at, put_string}
 use Rattle.tree.specs.Meaning.{Hash, Code}
-use Rattle.tree.specs.Nodes.{node}
+use Rattle.tree.specs.Nodes.{node, parent_at}
 use Rattle.tree.proofs.Laws.{node-moved, node-parent}
-use Rattle.growth.specs.Grown.{leaf_string, bottom, parent_at, node_at, filled, is_held, held_at, Holds, carry}
+use Rattle.growth.specs.Grown.{leaf_string, bottom, parameters, node_at, filled, is_held, held_at, Holds, carry}
 use Rattle.growth.specs.declared.origin.Origin.{Origin}
 
 module _ (hash : Hash) (code : Code) (o : Origin) where
   -- a leaf's node is the root over its own one-time strings
-  pub leaf-is : (i : ℕ) → node (parent_at hash o) (leaf_string hash code o i) o.height code.levels 0 ≡ node_at hash code o o.height i
+  pub leaf-is : (i : ℕ) → node (parent_at hash (parameters o)) (leaf_string hash code o i) o.height code.levels 0 ≡ node_at hash code o o.height i
   leaf-is i =
       let l = code.levels in
       let size = 2 ^ l in
       let deep : l ≡ o.height + l - o.height = omega arith in
-      node-moved (parent_at hash o) (leaf_string hash code o i) (bottom hash code o) o.height l 0 i
+      node-moved (parent_at hash (parameters o)) (leaf_string hash code o i) (bottom hash code o) o.height l 0 i
       (λ k h.
       let first : 0 * size + k ≡ k = omega (arith, zero-mul size) in
       ap (leaf_string hash code o i) first
       ∙ (λ j. leaf_string hash code o (sym (digits_div i {m = size} {r = k} h) j) (sym (digits_mod i {m = size} {r = k} h) j)))
-      ∙ ap (λ d. node (parent_at hash o) (bottom hash code o) o.height d i) deep
+      ∙ ap (λ d. node (parent_at hash (parameters o)) (bottom hash code o) o.height d i) deep
 
   -- a node above the bottom is the parent of the two below it
-  pub node-up : (a b : ℕ) → a < o.height + code.levels → node_at hash code o a b ≡ parent_at hash o a (node_at hash code o (a + 1) (2 * b)) (node_at hash code o (a + 1) (2 * b + 1))
+  pub node-up : (a b : ℕ) → a < o.height + code.levels → node_at hash code o a b ≡ parent_at hash (parameters o) a (node_at hash code o (a + 1) (2 * b)) (node_at hash code o (a + 1) (2 * b + 1))
   node-up a b h =
       let d = o.height + code.levels - (a + 1) in
       let up : o.height + code.levels - a ≡ d + 1 = omega arith in
-      ap (λ n. node (parent_at hash o) (bottom hash code o) a n b) up ∙ node-parent (parent_at hash o) (bottom hash code o) a d b
+      ap (λ n. node (parent_at hash (parameters o)) (bottom hash code o) a n b) up ∙ node-parent (parent_at hash (parameters o)) (bottom hash code o) a d b
 
   -- what is held at a level with an odd number of filled subtrees, and at any other
   held-last : (g a n : ℕ) → a ≤ o.height → filled g (o.height - a) ≡ n → n % 2 ≡ 1 → held_at hash code o g a ≡ node_at hash code o a (n - 1)

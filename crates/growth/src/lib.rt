@@ -8,3 +8,4 @@ mod stack;
 
 pub use origin::{Origin, Tree};
 pub use shown::sibling;
+pub use stack::NODES;

@@ -8,20 +8,24 @@ use crate::Tree;
 use codes::Code;
 use hashes::TreeHash;
 use strings::{ZERO, put_string, string_at};
+use tree::rows::WORK;
+
+/// The bytes of the nodes that are held: a string for each level from the root to the leaves, of which there are 9 at most.
+pub const NODES: usize = 144;
 
 impl<H: TreeHash, C: Code> Tree<'_, H, C> {
     /// Adds leaf number `grown` to a tree of which the leaves before it are in. String a of `nodes` is what is held at
     /// level a; nodes over full subtrees of equal size join. The work buffer is used up.
-    pub fn add_leaf(&self, grown: u16, nodes: &mut [u8; 144], work: &mut [u8; 4096])
+    pub fn add_leaf(&self, grown: u16, nodes: &mut [u8; NODES], work: &mut [u8; WORK])
         requires { grown < 2 ^ self.now.origin.now.height }
-        ensures after { nodes.new ≡ with_leaf (hash_of H.ChainHash H.TreeHash.own) (code_of C.Code)
+        ensures after { nodes.new ≡ with_leaf (hash_of H.TreeHash) (code_of C.Code)
             self.now.origin.now grown nodes.old }
-        ensures held { Holds (hash_of H.ChainHash H.TreeHash.own) (code_of C.Code)
+        ensures held { Holds (hash_of H.TreeHash) (code_of C.Code)
             self.now.origin.now grown nodes.old →
-            Holds (hash_of H.ChainHash H.TreeHash.own) (code_of C.Code) self.now.origin.now
+            Holds (hash_of H.TreeHash) (code_of C.Code) self.now.origin.now
             (grown + 1) nodes.new }
     {
-        let joiner = self.origin.joiner::<H>();
+        let parameters = self.origin.parameters();
         let mut node = self.leaf_node(grown, work);
         let mut level = self.origin.height as usize;
         let mut position = grown;
@@ -29,7 +33,7 @@ impl<H: TreeHash, C: Code> Tree<'_, H, C> {
             let left = string_at(nodes, level);
             put_string(nodes, level, &ZERO);
             level -= 1;
-            node = joiner.parent(level, &left, &node);
+            node = parameters.parent::<H>(level, &left, &node);
             position /= 2;
         }
         put_string(nodes, level, &node);

@@ -1,5 +1,4 @@
 -- A call that answers and leaves what its rule says continues every history.
--- Assumes nothing.
 use Rattle.std.proofs.Common.{◌≡◌, ℕ, List, [], ◌∷◌, Result, sym, subst}
 use Rattle.std.proofs.Math.Logic.{∥∥₁_map}
 use Rattle.growth.specs.declared.origin.Origin.{Origin}

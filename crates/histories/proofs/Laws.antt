@@ -1,5 +1,4 @@
 -- What a hash and a code are taken to obey, whatever key is grown with them.
--- Assumes nothing.
 use Rattle.std.proofs.Common.{◌≤◌, arith, pow_mono}
 pub use Rattle.compare.proofs.Lawful.{Laws}
 use Rattle.compare.proofs.Lawful.{Lawful}

@@ -1,5 +1,4 @@
 -- What holds of every state that a history leads to.
--- Assumes nothing.
 use Rattle.std.proofs.Common.{◌≡◌, ◌^◌, ◌||◌, eqb, ltb, ◌∷◌, refl, arith}
 use Rattle.std.proofs.lemmas.Bool.{cond_both, or_parts, eqb-false, ltb-false}
 use Rattle.growth.specs.declared.origin.Origin.{Origin}

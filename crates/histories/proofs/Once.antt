@@ -1,5 +1,4 @@
 -- No leaf number is issued twice.
--- Assumes nothing.
 use Rattle.std.proofs.Common.{◌≡◌, ℕ, List, [], ◌∷◌, ◌++◌, Ok, Result, refl, ap, subst, arith}
 use Rattle.growth.specs.declared.origin.Origin.{Origin}
 use Rattle.tree.specs.Meaning.{Hash, Code}

@@ -1,5 +1,4 @@
 -- Open refuses nothing on the key record of a signer.
--- Assumes nothing.
 use Rattle.std.proofs.Common.{◌≡◌, ℕ, ◌+◌, ◌*◌, ◌≤◌, List, length, take, Ok, arith}
 use Rattle.std.proofs.lemmas.List.{length-take-le}
 use Rattle.tree.specs.Meaning.{Hash, Code}

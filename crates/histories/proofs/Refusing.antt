@@ -1,5 +1,4 @@
 -- The rules of the signer's calls refuse by their lists.
--- Assumes nothing.
 use Rattle.std.proofs.Common.{◌≡◌, ℕ, ◌^◌, not, List, [], ◌∷◌, length, Ok, Err, Result, sym, subst}
 use Rattle.std.specs.Str.{bytes_eq}
 use Rattle.std.proofs.lemmas.Bool.Decides.{Decides-eqb, Decides-not, Decides-or, Decides-ltb}

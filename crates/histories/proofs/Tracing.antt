@@ -1,5 +1,4 @@
 -- What trace answers and leaves, where verify refuses and where it does not.
--- Assumes nothing.
 use Rattle.std.proofs.Common.{◌≡◌, ℕ, ◌^◌, true, false, not, eqb, leb, List, length, get_or, None, Ok, Err, Option, Result, sym, ap, ◌∙◌, subst}
 use Rattle.std.specs.Str.{bytes_eq}
 use Rattle.std.proofs.lemmas.Bool.{cond-true, cond-false, not_from_true, not_from_false}

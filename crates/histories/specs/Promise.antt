@@ -1,5 +1,4 @@
 -- What is promised of every history that leads to a signer, in service or retired, that traces a record.
--- Assumes nothing.
 use Rattle.std.specs.Prelude.{◌≡◌, ◌≢◌, ℕ, ◌<◌, ◌≤◌, ◌⊎◌, List, ◌∷◌, ◌++◌, take, drop}
 use Rattle.std.specs.Prelude.{replicate, Ok, Result}
 use Rattle.compare.specs.Found.{Found, verdict_numbers, verdict_report}

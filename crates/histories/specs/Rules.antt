@@ -1,5 +1,4 @@
 -- What the calls of a maker and a signer answer and leave, on all inputs.
--- Assumes nothing.
 use Rattle.std.specs.Prelude.{◌≡◌, ℕ, zero, suc, ◌+◌, ◌-◌, ◌*◌, ◌^◌, Bool, if◌then◌else◌, ◌||◌, List, ◌++◌, length, take, drop, replicate, Some, None, Ok, Err, Option, Result, ◌==◌, nat_lt, slice_index_or, slice_set}
 use Rattle.std.specs.Bool.{then_some}
 use Rattle.growth.specs.Grown.{node_at, filled, is_held, with_leaf}

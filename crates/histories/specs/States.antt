@@ -1,5 +1,4 @@
 -- What a maker and a signer hold, as values.
--- Assumes nothing.
 use Rattle.std.specs.Prelude.{ℕ, Bool, true, false, List, Some, None, Option}
 use Rattle.growth.specs.declared.origin.Origin.{Origin}
 

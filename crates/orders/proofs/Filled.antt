@@ -1,5 +1,4 @@
 -- A room that is filled by reads, one after the other.
--- Assumes nothing.
 use Rattle.std.proofs.Common.{◌≡◌, ℕ, ◌+◌, ◌<◌, ◌≤◌, List, [], ◌++◌, length, take, drop, None, Some, IfSome, Ok, Err, Result, Option, ⊎_elim, sym, refl, ap, ◌∙◌, subst, arith, append_assoc, append-nil, drop_at, take_all, length-drop}
 use Rattle.std.proofs.Math.Seq.{take-add}
 use Rattle.std.proofs.Math.ListN.{drop_of_length-le}

@@ -1,5 +1,4 @@
 -- A report refuses by the lists of the key record and of the orders.
--- Assumes nothing.
 use Rattle.std.proofs.Common.{◌≡◌, ℕ, ◌<◌, ◌≤◌, false, not, eqb, inl, ⊎_elim, List, ◌∷◌, length, take, drop, Ok, Err, Result, Decides, sym, ap, ◌∙◌, subst, arith, [], is_err, IsErr, refl}
 use Rattle.std.proofs.Math.ListN.{drop_of_length-le}
 use Rattle.std.proofs.lemmas.Bool.{false≢true}

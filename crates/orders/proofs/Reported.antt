@@ -1,5 +1,4 @@
 -- The report of an input, and that there is no other.
--- Assumes nothing.
 use Rattle.std.proofs.Common.{◌≡◌, ℕ, List, Ok, Err, Result, sym, ap, ◌∙◌, subst}
 use Rattle.tree.specs.Meaning.{Hash, Code}
 use Rattle.verifier.specs.Keys.{Key}

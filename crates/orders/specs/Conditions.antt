@@ -1,5 +1,4 @@
 -- What a key record and an order are refused for: each condition, and both lists in their order.
--- Assumes nothing.
 use Rattle.std.specs.Prelude.{◌≡◌, ℕ, ◌<◌, List, [], ◌∷◌, ◌++◌}
 use Rattle.std.specs.Prelude.{length, take, drop, IsErr, Ok, Result}
 use Rattle.tree.specs.Meaning.{Hash, Code}

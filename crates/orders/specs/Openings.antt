@@ -1,5 +1,4 @@
 -- What opening a key record gives to a tour.
--- Assumes nothing.
 use Rattle.std.specs.Prelude.{◌≡◌, Ok, Err, Result}
 use Rattle.tree.specs.Meaning.{Hash, Code}
 use Rattle.verifier.specs.Keys.{Key}

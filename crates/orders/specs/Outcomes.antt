@@ -1,5 +1,4 @@
 -- Orders one after the other: a stamp and a release record each.
--- Assumes nothing.
 use Rattle.std.specs.Prelude.{ℕ, zero, suc, ◌<◌, ◌≤◌, Bool, if◌then◌else◌, ◌&&◌, List, [], ◌∷◌, length, take, drop, Err, Result, ◌==◌, nat_le, nat_lt}
 use Rattle.verifier.specs.Records.{field}
 use Rattle.verifier.specs.declared.refusal.Refusal.{Refusal}

@@ -1,5 +1,4 @@
 -- Reads of a source, one after the other.
--- Assumes nothing.
 use Rattle.std.specs.Prelude.{◌≡◌, ◌≢◌, ℕ, ◌+◌, ◌-◌, ◌^◌, ◌<◌, ◌⊎◌, List, [], ◌++◌, length}
 use Rattle.std.specs.Prelude.{take, IfErr, Ok, Err, Result}
 use Rattle.std.specs.IoError.{error_kind}

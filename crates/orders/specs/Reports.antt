@@ -1,5 +1,4 @@
 -- What is reported of a key record and the orders that follow it.
--- Assumes nothing.
 use Rattle.std.specs.Prelude.{◌≡◌, ℕ, List, [], Ok, Err, Result}
 use Rattle.tree.specs.Meaning.{Hash, Code}
 use Rattle.verifier.specs.Keys.{Key}

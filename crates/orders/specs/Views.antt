@@ -1,5 +1,4 @@
 -- What a report and what is left of a tour stand for.
--- Assumes nothing.
 use Rattle.std.specs.Prelude.{ℕ, suc, List, [], Ok, Err, Result}
 use Rattle.verifier.specs.Rules.{verify_rule}
 use Rattle.verifier.specs.Views.{key_of}

@@ -1,5 +1,4 @@
 -- The names that numbers have.
--- Assumes nothing.
 use Rattle.std.proofs.Common.{◌≡◌, ℕ, ◌⊎◌, inl, inr, ⊎_elim, ◌↔◌, Ok, Err, is_err, IsErr, refl, sym, ap, ◌∙◌, Result, if◌then◌else◌, ◌==◌}
 use Rattle.std.proofs.lemmas.Bool.{false≢true, cases_eq, eq-eqb, ne_eqb}
 use Rattle.verifier.specs.Rules.{after}

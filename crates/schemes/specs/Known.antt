@@ -1,5 +1,4 @@
 -- The hashes and codes that a key record can name.
--- Assumes nothing.
 use Rattle.aes128.specs.Cipher.{aes_step, aes_pair}
 use Rattle.codes.specs.Codes.{lamport_diffie, winternitz}
 use Rattle.hashes.specs.Practice.{practice_step, practice_pair}

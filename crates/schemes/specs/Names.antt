@@ -1,5 +1,4 @@
 -- What the names of hashes and codes mean, and their numbers.
--- Assumes nothing.
 use Rattle.std.specs.Prelude.{◌≢◌, ◌⊎◌, ℕ, if◌then◌else◌, Ok, Err, Result, ◌==◌}
 use Rattle.tree.specs.Meaning.{Hash, Code}
 use Rattle.verifier.specs.Rules.{after}

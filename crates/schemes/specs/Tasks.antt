@@ -1,5 +1,4 @@
 -- What work leaves of what it writes to.
--- Assumes nothing.
 use Rattle.std.specs.Prelude.{◌≡◌}
 use Rattle.std.specs.Borrow.{MutBor}
 

@@ -19,13 +19,13 @@ pub trait Task {
     ghost gives: { Self → Hash → Code → Self.Output → Self → Type 0 };
 
     fn run<H: TreeHash, C: Code>(&mut self) -> Self::Output
-        ensures { gives self.old (hash_of H.ChainHash H.TreeHash.own) (code_of C.Code) result
+        ensures { gives self.old (hash_of H.TreeHash) (code_of C.Code) result
             self.new };
 }
 
 // Does the work with hash `H` and the code of this name.
 fn run_code<H: TreeHash, T: Task>(code: CodeName, task: &mut T) -> T::Output
-    ensures { T.gives task.old (hash_of H.ChainHash H.TreeHash.own) (code_named code) result
+    ensures { T.gives task.old (hash_of H.TreeHash) (code_named code) result
         task.new }
 {
     match code {

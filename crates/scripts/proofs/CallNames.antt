@@ -1,5 +1,4 @@
 -- Names of calls are text, so a word that is not names none.
--- Assumes nothing.
 use Rattle.std.proofs.Common.{◌≡◌, ℕ, false, List, None, Option, codes, subst, sym, refl, ⊎_elim}
 use Rattle.std.proofs.lemmas.Bool.{cases_Bool}
 use Rattle.std.proofs.lemmas.Slice.Eq.{bytes_eq-Decides}

@@ -1,5 +1,4 @@
 -- The nodes that a maker holds, level by level.
--- Assumes nothing.
 use Rattle.std.proofs.Common.{◌≡◌, ℕ, ◌+◌, ◌<◌, List, [], ◌++◌, length, set, take, sym, ap, ◌∙◌, add-one, Option, refl}
 use Rattle.std.proofs.lemmas.List.{flat_map_more, take_more_set}
 use Rattle.std.specs.List.{flat_map}

@@ -1,5 +1,4 @@
 -- Reading words, hex digits and numbers place by place.
--- Assumes nothing.
 use Rattle.std.proofs.Common.{◌≡◌, ℕ, suc, ◌+◌, ◌-◌, ◌*◌, ◌/◌, ◌%◌, ◌<◌, ◌≤◌, Bool, true, false, not, cond, ◌==◌, nat_lt, ◌&&◌, eqb, leb, List, [], ◌∷◌, ◌++◌, length, get_or, set, take, drop, position, IfSome, Some, None, Option, MatchOption, sym, refl, ap, ◌∙◌, append_assoc, append-nil, length-append, arith}
 use Rattle.std.proofs.lemmas.List.{drop_more, take_more_set, drop_all, take_all}
 use Rattle.std.proofs.lemmas.Bool.{cond-true, cond-false, eq-eqb, ne_eqb, lt-leb, ltb-true, ltb-false}

@@ -1,5 +1,4 @@
 -- Beginning a key.
--- Assumes nothing.
 use Rattle.std.specs.Prelude.{◌≡◌, ◌↔◌, ℕ, IsOk, Some, None, Option, Ok, Err, Result}
 use Rattle.histories.specs.Conditions.{plan_causes}
 use Rattle.histories.specs.Rules.{plan_rule}

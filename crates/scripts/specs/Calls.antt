@@ -1,5 +1,4 @@
 -- The calls of a key that is begun, and the lines that name them.
--- Assumes nothing.
 use Rattle.std.specs.Prelude.{ℕ, if◌then◌else◌, List, [], length, Some, None, codes, Option, ◌==◌}
 use Rattle.std.specs.Option.{option_map}
 use Rattle.std.specs.Str.{bytes_eq}

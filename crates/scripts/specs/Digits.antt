@@ -1,5 +1,4 @@
 -- Numbers as decimal digits.
--- Assumes nothing.
 use Rattle.std.specs.Prelude.{ℕ, ◌+◌, ◌-◌, ◌*◌, if◌then◌else◌, ◌&&◌, List, [], ◌∷◌, Some, None, Option, nat_le}
 
 -- the number that the digits of n, and then those of a text, name

@@ -1,5 +1,4 @@
 -- Bytes as hex digits.
--- Assumes nothing.
 use Rattle.std.specs.Prelude.{ℕ, ◌+◌, ◌-◌, ◌*◌, if◌then◌else◌, ◌&&◌, List, [], ◌∷◌, length, Some, None, Option, ◌==◌, nat_le}
 
 -- what a digit stands for: 0 to 9 from 48 on, a to f from 97 on

@@ -1,5 +1,4 @@
 -- What a session answers to a call, and what it leaves.
--- Assumes nothing.
 use Rattle.std.specs.Prelude.{ℕ, zero, suc, List, [], ◌∷◌, ◌++◌, take, replicate, Some, None, Ok, Err, Option, Result}
 use Rattle.std.specs.List.{flat_map}
 use Rattle.codes.specs.declared.Code as code_trait

@@ -1,5 +1,4 @@
 -- The lines that are printed of answers.
--- Assumes nothing.
 use Rattle.std.specs.Prelude.{ℕ, List, ◌++◌, codes}
 use Rattle.std.specs.Fmt.{decimal}
 use Rattle.std.specs.List.{flat_map}

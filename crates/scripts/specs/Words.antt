@@ -1,5 +1,4 @@
 -- Words with single spaces between them.
--- Assumes nothing.
 use Rattle.std.specs.Prelude.{ℕ, if◌then◌else◌, List, [], ◌∷◌, Some, None, Option, ◌==◌}
 use Rattle.std.specs.Option.{option_map}
 use Rattle.scripts.specs.Digits.{number_rule}

@@ -51,9 +51,9 @@ impl<H: TreeHash, C: Code> Session<H, C> {
         call: &Call<'_>,
         out: &'o mut [u8; MOST_ROOM],
     ) -> (Session<H, C>, Answer<'o>)
-        ensures answer { told result.1 ≡ reply (hash_of H.ChainHash H.TreeHash.own) (code_of C.Code)
+        ensures answer { told result.1 ≡ reply (hash_of H.TreeHash) (code_of C.Code)
             (state_of self) (said call.now) }
-        ensures state { state_of result.0 ≡ leaves (hash_of H.ChainHash H.TreeHash.own)
+        ensures state { state_of result.0 ≡ leaves (hash_of H.TreeHash)
             (code_of C.Code) (state_of self) (said call.now) }
     {
         match self {

@@ -1,5 +1,4 @@
 -- The leaves of a key that are lacking.
--- Assumes nothing.
 use Rattle.std.proofs.Common.{◌≡◌, ℕ, suc, ◌+◌, ◌-◌, ◌<◌, List, sym, refl, ap, ◌∙◌, arith}
 use Rattle.growth.specs.Grown.{with_leaf}
 use Rattle.growth.specs.declared.origin.Origin.{Origin}

@@ -1,5 +1,4 @@
 -- What a maker and a signer hold, by their types.
--- Assumes nothing.
 use Rattle.std.proofs.Common.{◌≡◌, ℕ, ◌<◌, ◌≤◌, List, length, get_or}
 use Rattle.std.proofs.ByRecursion.{All-from_get_or}
 use Rattle.codes.specs.declared.Code as code_trait

@@ -1,5 +1,4 @@
 -- The rows of a ledger from the next leaf on are empty.
--- Assumes nothing.
 use Rattle.std.proofs.Common.{◌≡◌, ℕ, ◌+◌, ◌≤◌, true, List, get_or, set, replicate, Some, None, Option, ap, ◌∙◌, arith}
 use Rattle.std.proofs.lemmas.List.{get_or-set_other}
 use Rattle.histories.specs.States.{empty_row}

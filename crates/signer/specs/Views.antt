@@ -1,5 +1,4 @@
 -- What the signer's types stand for.
--- Assumes nothing.
 use Rattle.std.specs.Prelude.{ℕ}
 use Rattle.codes.specs.declared.Code as code_trait
 use Rattle.hashes.specs.declared.ChainHash as chain_hash

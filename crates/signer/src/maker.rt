@@ -3,7 +3,7 @@
 ghost use Rattle.std.specs.Prelude.{ℕ, ◌^◌, ◌<◌, ◌≤◌, slice_index};
 ghost use Rattle.growth.specs.Grown.{Holds};
 ghost use Rattle.histories.specs.Histories.{growing, HasLived};
-ghost use Rattle.tree.specs.Meaning.{hash_of, code_of};
+ghost use Rattle.tree.specs.Meaning.{hash_by, code_of};
 
 use codes::Code;
 use growth::Origin;
@@ -24,10 +24,10 @@ pub struct Maker<H: TreeHash, C: Code> {
     code: PhantomData<C>,
     ghost tall: { (1 ≤ origin.height) × (origin.height ≤ 8) },
     ghost few: { grown ≤ 2 ^ origin.height },
-    pub ghost holds: { Holds (hash_of H.ChainHash H.TreeHash) (code_of C.Code) origin grown nodes },
+    pub ghost holds: { Holds (hash_by H.ChainHash H.TreeHash) (code_of C.Code) origin grown nodes },
     ghost bytes: { (i : ℕ) → (slice_index origin.seed i < 256)
         × (slice_index origin.hash_key i < 256) × (slice_index origin.masks i < 256) },
     // Some begin and some history of calls lead to this key.
-    pub ghost lived: { HasLived (hash_of H.ChainHash H.TreeHash) (code_of C.Code)
+    pub ghost lived: { HasLived (hash_by H.ChainHash H.TreeHash) (code_of C.Code)
         (growing (record { origin = origin; grown = grown; nodes = nodes })) },
 }

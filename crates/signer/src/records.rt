@@ -60,10 +60,10 @@ fn write_shown<H: TreeHash, C: Code>(
     requires there { leaf < 2 ^ tree.now.origin.now.height }
     requires room { release_length C.Code.COUNT tree.now.origin.now.height ≤ length out.old }
     ensures after { out.new ≡ (take 8 out.old ++
-        shown_row (hash_of H.ChainHash H.TreeHash.own) (code_of C.Code) tree.now.origin.now leaf stamp.now)
+        shown_row (hash_of H.TreeHash) (code_of C.Code) tree.now.origin.now leaf stamp.now)
         ++ drop (release_length C.Code.COUNT tree.now.origin.now.height) out.old }
     ensures long { length
-        (shown_row (hash_of H.ChainHash H.TreeHash.own) (code_of C.Code) tree.now.origin.now leaf stamp.now)
+        (shown_row (hash_of H.TreeHash) (code_of C.Code) tree.now.origin.now leaf stamp.now)
         ≡ 16 * (C.Code.COUNT + tree.now.origin.now.height) }
 {
     for k in 0..C::COUNT + tree.origin.height as usize {
@@ -82,7 +82,7 @@ pub(crate) fn write_release<H: TreeHash, C: Code>(
 )
     requires there { leaf < 2 ^ tree.now.origin.now.height }
     requires room { release_length C.Code.COUNT tree.now.origin.now.height ≤ length out.old }
-    ensures { out.new ≡ release_bytes leaf (shown_row (hash_of H.ChainHash H.TreeHash.own)
+    ensures { out.new ≡ release_bytes leaf (shown_row (hash_of H.TreeHash)
         (code_of C.Code) tree.now.origin.now leaf stamp.now)
         ++ drop (release_length C.Code.COUNT tree.now.origin.now.height) out.old }
 {

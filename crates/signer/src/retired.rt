@@ -1,7 +1,7 @@
 //! A key out of service.
 
 ghost use Rattle.histories.specs.Histories.{retired, HasLived};
-ghost use Rattle.tree.specs.Meaning.{hash_of, code_of};
+ghost use Rattle.tree.specs.Meaning.{hash_by, code_of};
 
 use crate::Signer;
 use codes::Code;
@@ -14,6 +14,6 @@ mod lending;
 pub struct Retired<H: TreeHash, C: Code> {
     pub(crate) signer: Signer<H, C>,
     // Some begin and some history of calls lead to this retired signer.
-    pub ghost lived: { HasLived (hash_of H.ChainHash H.TreeHash) (code_of C.Code)
+    pub ghost lived: { HasLived (hash_by H.ChainHash H.TreeHash) (code_of C.Code)
         (retired (record { origin = signer.origin; root = signer.root; next = signer.next; rows = signer.ledger.rows })) },
 }

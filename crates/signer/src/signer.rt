@@ -4,7 +4,7 @@ ghost use Rattle.std.specs.Prelude.{◌≡◌, ℕ, ◌^◌, ◌<◌, ◌≤◌,
 ghost use Rattle.growth.specs.Grown.{node_at};
 ghost use Rattle.histories.specs.Histories.{serving, HasLived};
 ghost use Rattle.histories.specs.States.{empty_row};
-ghost use Rattle.tree.specs.Meaning.{hash_of, code_of};
+ghost use Rattle.tree.specs.Meaning.{hash_by, code_of};
 
 use crate::ledger::Ledger;
 use codes::Code;
@@ -27,13 +27,13 @@ pub struct Signer<H: TreeHash, C: Code> {
     pub(crate) code: PhantomData<C>,
     pub ghost tall: { (1 ≤ origin.height) × (origin.height ≤ 8) },
     pub ghost within: { next ≤ 2 ^ origin.height },
-    pub ghost rooted: { root ≡ node_at (hash_of H.ChainHash H.TreeHash) (code_of C.Code) origin 0 0 },
+    pub ghost rooted: { root ≡ node_at (hash_by H.ChainHash H.TreeHash) (code_of C.Code) origin 0 0 },
     ghost sized: { (length origin.hash_key ≡ 16) × (length origin.masks ≡ 512) × (length root ≡ 16) },
     pub ghost fresh: { (i : ℕ) → next ≤ i → empty_row (slice_index_or ledger.rows i None) ≡ true },
     ghost seeded: { length origin.seed ≡ 16 },
     ghost bytes: { (i : ℕ) → (slice_index origin.seed i < 256)
         × (slice_index origin.hash_key i < 256) × (slice_index origin.masks i < 256) },
     // Some begin and some history of calls lead to this signer.
-    pub ghost lived: { HasLived (hash_of H.ChainHash H.TreeHash) (code_of C.Code)
+    pub ghost lived: { HasLived (hash_by H.ChainHash H.TreeHash) (code_of C.Code)
         (serving (record { origin = origin; root = root; next = next; rows = ledger.rows })) },
 }

@@ -1,5 +1,4 @@
 -- The laws of chains, nodes and paths.
--- Assumes nothing.
 use Rattle.std.proofs.Common.{◌≡◌, ℕ, zero, suc, ◌+◌, ◌-◌, ◌*◌, ◌/◌, ◌%◌, ◌^◌, ◌<◌, ◌≤◌, cond, List, replicate, sym, refl, ap, ◌∙◌, mul_assoc, mul_comm, add-mul, one-mul, add-one, arith, rules, pow_mono, le-ltb, lt-ltb}
 use native.Mathlib.Nat.{pow-succ'}
 use Rattle.std.proofs.lemmas.Grind.{pow_more}

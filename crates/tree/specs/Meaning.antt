@@ -1,5 +1,4 @@
 -- A hash and a code as values: what the generic code is proved over.
--- Assumes nothing.
 use Rattle.std.specs.Prelude.{ℕ, List}
 use Rattle.hashes.specs.declared.ChainHash as chain_hash
 use Rattle.hashes.specs.declared.TreeHash as tree_hash
@@ -23,8 +22,29 @@ pub record Code : Type 0 where
   -- stamp and place to digit
   pub digit : List ℕ → ℕ → ℕ
 
-abbrev pub hash_of : {S : Type 0} → chain_hash.Ghosts S → tree_hash.Ghosts S → Hash
-hash_of chain tree = record { number = chain.NUMBER; step = chain.steps; pair = tree.pairs }
+-- what a clause names by `H.TreeHash`, under a bound `H: TreeHash`
+abbrev pub TreeHashMembers : Type 0
+TreeHashMembers = record {
+  NUMBER : ℕ;
+  steps : List ℕ → List ℕ → List ℕ;
+  pairs : List ℕ → List ℕ → List ℕ → List ℕ;
+}
 
+-- the hash under a bound `H: TreeHash`, in a clause
+abbrev pub hash_of : TreeHashMembers → Hash
+hash_of h = record { number = h.NUMBER; step = h.steps; pair = h.pairs }
+
+-- the same hash, where each trait's members are a record of their own: in a type and in a proof
+abbrev pub hash_by : {S : Type 0} → chain_hash.Ghosts S → tree_hash.Ghosts S → Hash
+hash_by chain tree = record { number = chain.NUMBER; step = chain.steps; pair = tree.pairs }
+
+-- the code under a bound `C: Code`
 abbrev pub code_of : {S : Type 0} → code_trait.Ghosts S → Code
-code_of code = record { number = code.NUMBER; count = code.COUNT; top = code.TOP; levels = code.LEVELS; digit = code.digits }
+code_of code =
+    record {
+      number = code.NUMBER;
+      count = code.COUNT;
+      top = code.TOP;
+      levels = code.LEVELS;
+      digit = code.digits;
+    }

@@ -1,13 +1,19 @@
 -- The root that a leaf number, a stamp and a row of strings lead to.
--- Assumes nothing.
-use Rattle.std.specs.Prelude.{ℕ, ◌+◌, ◌-◌, List}
-use Rattle.strings.specs.Strings.{string_at}
+use Rattle.std.specs.Prelude.{ℕ, List}
 use Rattle.tree.specs.Meaning.{Hash, Code}
-use Rattle.tree.specs.Nodes.{join, node, climb, one_time}
+use Rattle.tree.specs.Nodes.{Parameters, parent_at, node, climb, one_time}
+use Rattle.tree.specs.Rows.{chain_in, sibling_in}
 
--- the root of leaf number i of a tree of height h: the first strings of the row are one for each chain, at the
--- height of the stamp's digit; the siblings from level h up to level 1 follow
-abbrev pub rebuilt : Hash → Code → List ℕ → List ℕ → ℕ → ℕ → List ℕ → List ℕ → List ℕ
-rebuilt hash code key masks h i stamp row =
-    climb (join (hash.pair key) masks) (λ a. string_at row (code.count + (h - a))) h i
-    (node (join (hash.pair key) masks) (one_time (hash.step key) code.count code.top (code.digit stamp) (string_at row)) h code.levels 0)
+-- the leaf's node: its chains, shown at the heights of the stamp's digits, are raised to the top
+-- digit, and the one-time strings folded (an L-tree)
+abbrev pub rebuilt_leaf : Hash → Code → Parameters → List ℕ → List ℕ → List ℕ
+rebuilt_leaf hash code p stamp row =
+    node (parent_at hash p)
+    (one_time (hash.step p.hash_key) code.count code.top (code.digit stamp) (chain_in row))
+    p.height code.levels 0
+
+-- the root of leaf number i, from its row of strings for this stamp
+abbrev pub rebuilt : Hash → Code → Parameters → ℕ → List ℕ → List ℕ → List ℕ
+rebuilt hash code p i stamp row =
+    climb (parent_at hash p) (sibling_in code.count p.height row) p.height i
+    (rebuilt_leaf hash code p stamp row)

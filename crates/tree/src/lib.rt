@@ -3,5 +3,9 @@
 
 pub mod chains;
 pub mod nodes;
-pub mod paths;
-pub mod roots;
+mod parameters;
+mod paths;
+mod roots;
+pub mod rows;
+
+pub use parameters::Parameters;

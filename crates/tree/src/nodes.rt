@@ -2,10 +2,12 @@
 
 ghost use Rattle.std.specs.Prelude.{◌≡◌, ℕ, ◌+◌, ◌*◌, ◌%◌, ◌^◌, ◌<◌, ◌≤◌, if◌then◌else◌, length, nat_eq};
 ghost use Rattle.strings.specs.Strings.{xor, string_at};
-ghost use Rattle.tree.specs.Nodes.{join, node};
+ghost use Rattle.tree.specs.Meaning.{hash_of};
+ghost use Rattle.tree.specs.Nodes.{parent_at, node};
+ghost use Rattle.tree.specs.Views.{parameters_of};
 
+use crate::Parameters;
 use hashes::TreeHash;
-use std::marker::PhantomData;
 use strings::{put_string, string_at, xor};
 
 /// Two children of one parent.
@@ -30,16 +32,7 @@ impl Children {
     }
 }
 
-/// What nodes are joined by: a tree hash, its key, and the left and right mask of each level.
-#[derive(Drop)]
-pub struct Joiner<'a, H> {
-    pub key: &'a [u8; 16],
-    /// String 2a is the left mask of level a, string 2a + 1 the right one.
-    pub masks: &'a [u8],
-    pub hash: PhantomData<H>,
-}
-
-impl<H: TreeHash> Joiner<'_, H> {
+impl Parameters<'_> {
     /// Two children under the masks of a level.
     pub fn masked(&self, level: usize, children: &Children) -> Children
         requires { 32 * level + 32 ≤ length self.now.masks.now }
@@ -54,45 +47,45 @@ impl<H: TreeHash> Joiner<'_, H> {
     }
 
     /// The parent at `level` of two children.
-    pub fn parent(&self, level: usize, left: &[u8; 16], right: &[u8; 16]) -> [u8; 16]
+    pub fn parent<H: TreeHash>(&self, level: usize, left: &[u8; 16], right: &[u8; 16]) -> [u8; 16]
         requires { 32 * level + 32 ≤ length self.now.masks.now }
-        ensures { result ≡ join (H.TreeHash.pairs self.now.key.now) self.now.masks.now level
-            left.now right.now }
+        ensures { result ≡ parent_at (hash_of H.TreeHash) (parameters_of self.now) level left.now
+            right.now }
     {
         let children = Children {
             left: *left,
             right: *right,
         };
         let masked = self.masked(level, &children);
-        H::pair(self.key, &masked.left, &masked.right)
+        H::pair(self.hash_key, &masked.left, &masked.right)
     }
 
     /// Writes the `n` parents at `level` of the first 2n strings of `row` over its first n strings. Nothing is promised
     /// of the strings after them.
-    pub fn fold_level(&self, level: usize, row: &mut [u8], n: usize)
+    pub fn fold_level<H: TreeHash>(&self, level: usize, row: &mut [u8], n: usize)
         requires masked { 32 * level + 32 ≤ length self.now.masks.now }
         requires within { 32 * n ≤ length row.old }
         ensures { (k : ℕ) → k < n → string_at row.new k
-            ≡ join (H.TreeHash.pairs self.now.key.now) self.now.masks.now level
+            ≡ parent_at (hash_of H.TreeHash) (parameters_of self.now) level
             (string_at row.old (2 * k)) (string_at row.old (2 * k + 1)) }
     {
         for p in 0..n {
             let left = string_at(row, 2 * p);
             let right = string_at(row, 2 * p + 1);
-            put_string(row, p, &self.parent(level, &left, &right));
+            put_string(row, p, &self.parent::<H>(level, &left, &right));
         }
     }
 
     /// The node at `level` over the first 2^levels strings of `row`, which lie `levels` below it. The row is used up.
-    pub fn fold(&self, level: usize, levels: usize, row: &mut [u8]) -> [u8; 16]
+    pub fn fold<H: TreeHash>(&self, level: usize, levels: usize, row: &mut [u8]) -> [u8; 16]
         requires masked { 32 * (level + levels) ≤ length self.now.masks.now }
         requires within { 16 * 2 ^ levels ≤ length row.old }
         requires few { levels ≤ 8 }
-        ensures { result ≡ node (join (H.TreeHash.pairs self.now.key.now) self.now.masks.now)
+        ensures { result ≡ node (parent_at (hash_of H.TreeHash) (parameters_of self.now))
             (string_at row.old) level levels 0 }
     {
-        for left in (0..levels).rev() {
-            self.fold_level(level + left, row, 1 << left);
+        for depth in (0..levels).rev() {
+            self.fold_level::<H>(level + depth, row, 1 << depth);
         }
         string_at(row, 0)
     }

@@ -1,16 +1,20 @@
 //! The path from a leaf to the root.
 
-ghost use Rattle.std.specs.Prelude.{◌≡◌, ℕ, ◌+◌, ◌-◌, ◌*◌, ◌<◌, ◌≤◌, length};
-ghost use Rattle.strings.specs.Strings.{string_at};
-ghost use Rattle.tree.specs.Nodes.{join, above, climb};
+ghost use Rattle.std.specs.Prelude.{◌≡◌, ◌+◌, ◌*◌, ◌≤◌, length};
+ghost use Rattle.tree.specs.Meaning.{hash_of};
+ghost use Rattle.tree.specs.Nodes.{parent_at, above, climb};
+ghost use Rattle.tree.specs.Rows.{sibling_in};
+ghost use Rattle.tree.specs.Views.{parameters_of};
 
-use crate::nodes::{Children, Joiner};
+use crate::Parameters;
+use crate::nodes::Children;
+use crate::rows::sibling_in;
+use codes::Code;
 use hashes::TreeHash;
-use strings::string_at;
 
-impl<H: TreeHash> Joiner<'_, H> {
+impl Parameters<'_> {
     /// The parent at `level` of the node `at`, which stands at `position` one level below, and its sibling.
-    pub fn parent_above(
+    pub fn parent_above<H: TreeHash>(
         &self,
         level: usize,
         position: u16,
@@ -18,33 +22,30 @@ impl<H: TreeHash> Joiner<'_, H> {
         sibling: &[u8; 16],
     ) -> [u8; 16]
         requires { 32 * level + 32 ≤ length self.now.masks.now }
-        ensures { result ≡ above (join (H.TreeHash.pairs self.now.key.now) self.now.masks.now) level
+        ensures { result ≡ above (parent_at (hash_of H.TreeHash) (parameters_of self.now)) level
             position at.now sibling.now }
     {
         let children = Children::in_order(position, at, sibling);
-        self.parent(level, &children.left, &children.right)
+        self.parent::<H>(level, &children.left, &children.right)
     }
 
-    /// The root over leaf number `leaf`, whose node is `start`: strings `first` to `first + height - 1` of `row` are the
-    /// siblings on the way, from level `height` up to level 1.
-    pub fn climb_path(
+    /// The root over leaf number `leaf`, whose node is `start`: the row of its release has the siblings on the way.
+    pub fn climb_path<H: TreeHash, C: Code>(
         &self,
-        height: usize,
         leaf: u16,
         start: &[u8; 16],
         row: &[u8],
-        first: usize,
     ) -> [u8; 16]
-        requires masked { 32 * height ≤ length self.now.masks.now }
-        requires within { 16 * (first + height) ≤ length row.now }
-        ensures { result ≡ climb (join (H.TreeHash.pairs self.now.key.now) self.now.masks.now)
-            (λ a. string_at row.now (first + (height - a))) height leaf start.now }
+        requires masked { 32 * self.now.height ≤ length self.now.masks.now }
+        requires within { 16 * (C.Code.COUNT + self.now.height) ≤ length row.now }
+        ensures { result ≡ climb (parent_at (hash_of H.TreeHash) (parameters_of self.now))
+            (sibling_in C.Code.COUNT self.now.height row.now) self.now.height leaf start.now }
     {
         let mut at = *start;
         let mut position = leaf;
-        for level in (0..height).rev() {
-            let sibling = string_at(row, first + (height - 1 - level));
-            at = self.parent_above(level, position, &at, &sibling);
+        for level in (0..self.height as usize).rev() {
+            let sibling = sibling_in::<C>(self.height, row, level + 1);
+            at = self.parent_above::<H>(level, position, &at, &sibling);
             position /= 2;
         }
         at

@@ -1,32 +1,33 @@
 //! The root that a leaf number, a stamp and a row of strings lead to.
 
-ghost use Rattle.std.specs.Prelude.{◌≡◌, ℕ, ◌+◌, ◌*◌, ◌≤◌, length};
+ghost use Rattle.std.specs.Prelude.{◌≡◌, ◌+◌, ◌*◌, ◌≤◌, length};
 ghost use Rattle.tree.specs.Meaning.{hash_of, code_of};
 ghost use Rattle.tree.specs.Rebuilt.{rebuilt};
+ghost use Rattle.tree.specs.Views.{parameters_of};
 
+use crate::Parameters;
 use crate::chains::one_time_strings;
-use crate::nodes::Joiner;
+use crate::rows::WORK;
 use codes::Code;
 use hashes::TreeHash;
 
-impl<H: TreeHash> Joiner<'_, H> {
-    /// The root of leaf number `leaf` of a tree of height `height`. The row has a string for each chain, at the height
-    /// of the stamp's digit, and then the siblings from level `height` up to level 1.
-    pub fn rebuild_root<C: Code>(
+impl Parameters<'_> {
+    /// The root of leaf number `leaf`. The row has a string for each chain, at the height of the stamp's digit, and then the
+    /// siblings from the leaf's level up to level 1.
+    pub fn rebuild_root<H: TreeHash, C: Code>(
         &self,
-        height: usize,
         leaf: u16,
         stamp: &[u8; 16],
         row: &[u8],
     ) -> [u8; 16]
-        requires masked { 32 * (height + C.Code.LEVELS) ≤ length self.now.masks.now }
-        requires within { 16 * (C.Code.COUNT + height) ≤ length row.now }
-        ensures { result ≡ rebuilt (hash_of H.ChainHash H.TreeHash.own) (code_of C.Code)
-            self.now.key.now self.now.masks.now height leaf stamp.now row.now }
+        requires masked { 32 * (self.now.height + C.Code.LEVELS) ≤ length self.now.masks.now }
+        requires within { 16 * (C.Code.COUNT + self.now.height) ≤ length row.now }
+        ensures { result ≡ rebuilt (hash_of H.TreeHash) (code_of C.Code) (parameters_of self.now)
+            leaf stamp.now row.now }
     {
-        let mut strings = [0; 4096];
-        one_time_strings::<H, C>(self.key, stamp, row, &mut strings);
-        let start = self.fold(height, C::LEVELS as usize, &mut strings);
-        self.climb_path(height, leaf, &start, row, C::COUNT)
+        let mut strings = [0; WORK];
+        one_time_strings::<H, C>(self.hash_key, stamp, row, &mut strings);
+        let start = self.fold::<H>(self.height as usize, C::LEVELS as usize, &mut strings);
+        self.climb_path::<H, C>(leaf, &start, row)
     }
 }

@@ -1,4 +1,2 @@
-pub mod Causing
 pub mod Facts
-pub mod Reading
 pub mod Refusing

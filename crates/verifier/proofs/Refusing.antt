@@ -1,48 +1,22 @@
 -- The verifier's rules refuse by their lists.
--- Assumes nothing.
-use Rattle.std.proofs.Common.{◌≡◌, ℕ, ◌^◌, ◌≤◌, not, leb, eqb, List, ◌∷◌, [], length, drop, Ok, Decides, ◌⊎◌, inl, inr, ⊎_elim, arith, sym, ap, ◌∙◌, subst}
+use Rattle.std.proofs.Common.{◌≡◌, ℕ, not, List, ◌∷◌, [], Ok, Decides, ◌⊎◌, inl, inr, ⊎_elim, arith, sym, ap, ◌∙◌, subst}
 use Rattle.std.specs.Str.{bytes_eq}
-use Rattle.std.proofs.lemmas.Bool.Decides.{nat_tests, Decides-eqb, Decides-not, Decides-or, Decides-ltb, Decides-like}
+use Rattle.std.proofs.lemmas.Bool.Decides.{Decides-not, Decides-like}
 use Rattle.std.proofs.lemmas.Bool.{cases_eq}
 use Rattle.std.proofs.lemmas.Slice.Eq.{bytes_eq-Decides}
 use Rattle.tree.specs.Meaning.{Hash, Code}
-use Rattle.verifier.specs.Causes.{cause, Refuses}
-use Rattle.verifier.specs.Conditions.{WrongLength, WrongKind, WrongNumbers, WrongHeight, WrongKeyLength, WrongReleaseLength, NoSuchLeaf, WrongRoot, Opening, OpenedWith, WrongOpening, header_causes, open_causes, parts_causes, read_causes, own_causes, verify_causes}
-use Rattle.verifier.specs.Keys.{Key}
-use Rattle.verifier.specs.Records.{field, key_length, release_length, hash_number_of, code_number_of, height_of, spare_of, root_of, leaf_of}
-use Rattle.verifier.specs.Rules.{refuse, bad_length, bad_kind, foreign, bad_height, header_rule, open_rule, suited, parts_rule, read_rule, own_rule, root_shown, verify_rule}
-use Rattle.verifier.specs.declared.refusal.Refusal.TheVariants.{Length, Kind, Parameters, Height, Layout, Leaf, Root}
-use Rattle.verifier.proofs.Causing.{refuses-none, refuses-more, refuses-after}
-use Rattle.verifier.proofs.Facts.{open-to, suited-from, suited-to, read-to}
-
-differs : (x y : ℕ) → Decides (not (eqb x y)) (x ≡ y → ⊥)
-differs x y = Decides-not (eqb x y) (Decides-eqb x y)
-
-at-least : (x y : ℕ) → Decides (leb x y) (x ≤ y)
-at-least x y = grind (arith, nat_tests)
-
-pub header-refuses : (kind : ℕ) (bytes : List ℕ) → Refuses (header_causes kind bytes) (header_rule kind bytes)
-header-refuses kind bytes =
-    refuses-more (bad_length bytes) (WrongLength bytes) Length _ _ (Decides-or _ _ (Decides-ltb (length bytes) 10) (differs (field bytes 0 4) (length bytes)))
-    (refuses-more (bad_kind kind bytes) (WrongKind kind bytes) Kind _ _ (differs (field bytes 4 2) kind) (refuses-none (drop 6 bytes)))
-
-pub open-refuses : (hash code levels : ℕ) (bytes : List ℕ) → Refuses (open_causes hash code levels bytes) (open_rule hash code levels bytes)
-open-refuses hash code levels bytes =
-    refuses-after _ _ (header_rule 1 bytes) _ (header-refuses 1 bytes)
-    (λ body is.
-    refuses-more (foreign hash code bytes) (WrongNumbers hash code bytes) Parameters _ _ (Decides-or _ _ (differs (hash_number_of bytes) hash) (differs (code_number_of bytes) code))
-    (refuses-more (bad_height bytes) (WrongHeight bytes) Height _ _
-    (Decides-or _ _ (Decides-ltb (height_of bytes) 1) (Decides-or _ _ (Decides-ltb 8 (height_of bytes)) (differs (spare_of bytes) 0)))
-    (refuses-more _ (WrongKeyLength levels bytes) Layout _ _ (differs (length bytes) (key_length (height_of bytes) levels)) (refuses-none _))))
-
-pub parts-refuses : (count h : ℕ) (bytes : List ℕ) → Refuses (parts_causes count h bytes) (parts_rule count h bytes)
-parts-refuses count h bytes =
-    refuses-more _ (WrongReleaseLength count h bytes) Layout _ _ (differs (length bytes) (release_length count h))
-    (refuses-more _ (NoSuchLeaf h bytes) Leaf _ _ (at-least (2 ^ h) (leaf_of bytes)) (refuses-none _))
-
-pub own-refuses : (count h : ℕ) (bytes : List ℕ) → Refuses (own_causes count h bytes) (own_rule count h bytes)
-own-refuses count h bytes =
-    refuses-after _ _ (header_rule 2 bytes) _ (header-refuses 2 bytes) (λ body is. parts-refuses count h bytes)
+use Rattle.records.specs.Causes.{cause, Refuses}
+use Rattle.records.specs.Keys.{Key}
+use Rattle.records.specs.Records.{key_length, height_of, root_of}
+use Rattle.records.specs.Rules.{refuse, header_rule}
+use Rattle.records.specs.declared.kind.RecordKind.TheVariants as kind
+use Rattle.records.specs.declared.refusal.Refusal.TheVariants.{Parameters, Root}
+use Rattle.records.proofs.Causing.{refuses-none, refuses-more, refuses-after}
+use Rattle.records.proofs.Facts.{open-to}
+use Rattle.records.proofs.Refusing.{header-refuses, parts-refuses}
+use Rattle.verifier.specs.Conditions.{WrongRoot, Opening, OpenedWith, WrongOpening, read_causes, verify_causes}
+use Rattle.verifier.specs.Rules.{suited, read_rule, root_shown, verify_rule}
+use Rattle.verifier.proofs.Facts.{suited-from, suited-to, read-to}
 
 -- a key suits a verifier with the numbers and levels that it was opened with, and no other
 suits-same : (hash code levels : ℕ) (by : Opening) (key : Key) → OpenedWith by key → Decides (suited hash code levels key) ((by.hash ≡ hash) × ((by.code ≡ code) × (by.levels ≡ levels)))
@@ -71,7 +45,7 @@ suits-opened hash code by key opened =
 
 pub read-refuses : (hash : ℕ) (code : Code) (by : Opening) (key : Key) (bytes : List ℕ) → OpenedWith by key → Refuses (read_causes hash code by key bytes) (read_rule hash code key bytes)
 read-refuses hash code by key bytes opened =
-    refuses-after _ _ (header_rule 2 bytes) _ (header-refuses 2 bytes)
+    refuses-after _ _ (header_rule kind.Release bytes) _ (header-refuses kind.Release bytes)
     (λ body is.
     refuses-more _ (WrongOpening hash code by) Parameters _ _ (suits-opened hash code by key opened) (parts-refuses code.count key.height bytes))
 

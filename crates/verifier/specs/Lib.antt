@@ -1,9 +1,3 @@
-pub mod Causes
 pub mod Conditions
-pub mod Keys
-pub mod Kinds
-pub mod Reads
-pub mod Records
-pub mod Refusals
 pub mod Rules
 pub mod Views

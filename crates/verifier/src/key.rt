@@ -1,6 +1,7 @@
 //! An opened key.
 
 ghost use Rattle.std.specs.Prelude.{◌+◌, ◌*◌, ◌≤◌, length};
+ghost use Rattle.records.specs.Keys.{key_of_height};
 ghost use Rattle.verifier.specs.Conditions.{Opening, OpenedWith};
 
 mod parts;
@@ -13,6 +14,5 @@ pub struct OpenedKey<'a> {
     pub ghost tall: { (1 ≤ height) × (height ≤ 8) },
     pub ghost long: { 42 + 32 * height ≤ length bytes.now },
     // Some verifier opened it.
-    pub ghost opened: { ∥ ((by : Opening)
-        × OpenedWith by (record { bytes = bytes.now; height = height })) ∥₁ },
+    pub ghost opened: { ∥ ((by : Opening) × OpenedWith by (key_of_height bytes.now height)) ∥₁ },
 }

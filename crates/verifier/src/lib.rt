@@ -1,19 +1,12 @@
-//! The verifier: reads key and release records as they lie in the caller's bytes, and says whether a release opens.
+//! The verifier: opens key records as they lie in the caller's bytes, and says whether a release record opens a box.
 #![tactic(auto)]
 
-mod header;
 mod key;
-pub mod layout;
-mod lengths;
 mod opening;
-mod refusal;
-mod release;
+mod reading;
 mod verifying;
 
-pub use header::{RecordKind, body_of};
 pub use key::OpenedKey;
-pub use lengths::{key_length, release_length};
 pub use opening::{open, suits};
-pub use refusal::Refusal;
-pub use release::{Release, read_own, read_release};
+pub use reading::read_under;
 pub use verifying::verify;

@@ -1,34 +1,27 @@
 //! Opening a key record.
 
 ghost use Rattle.std.specs.Prelude.{◌≡◌, ℕ, Ok, ◌↔◌, IsTrue};
-ghost use Rattle.verifier.specs.Reads.{ReadsKeys};
-ghost use Rattle.verifier.specs.Rules.{seen, open_rule, suited};
+ghost use Rattle.records.specs.Reads.{ReadsKeys};
+ghost use Rattle.records.specs.Rules.{seen, open_rule};
+ghost use Rattle.verifier.specs.Rules.{suited};
 ghost use Rattle.verifier.specs.Views.{key_of};
 
-use crate::header::body_of;
-use crate::lengths::key_length;
-use crate::{OpenedKey, RecordKind, Refusal, layout};
+use crate::OpenedKey;
 use codes::Code;
 use hashes::ChainHash;
+use records::{Refusal, key};
 
-/// Reads a key record as it lies in `bytes`, for a verifier with hash `H` and code `C`.
+/// Opens a key record as it lies in `bytes`, for a verifier with hash `H` and code `C`. Refuses, in this order: with 6, `Length`, fewer
+/// than 10 bytes or a length field that differs from their number; with 7, `Kind`, another kind of record; with 8, `Parameters`,
+/// another hash or code number; with 9, `Height`, a height outside 1 to 8 or a spare byte other than 0; with 10, `Layout`, another byte
+/// count than 42 + 32 (height + levels).
 pub fn open<H: ChainHash, C: Code>(bytes: &[u8]) -> Result<OpenedKey<'_>, Refusal>
     ensures answer { seen key_of result ≡ open_rule H.ChainHash.NUMBER C.Code.NUMBER C.Code.LEVELS
         bytes.now }
     ensures reads { ReadsKeys H.ChainHash.NUMBER C.Code.NUMBER C.Code.LEVELS bytes.now
         (seen key_of result) }
 {
-    body_of(bytes, RecordKind::Key)?;
-    if bytes[layout::HASH_NUMBER] != H::NUMBER || bytes[layout::CODE_NUMBER] != C::NUMBER {
-        return Err(Refusal::Parameters);
-    }
-    let height = bytes[layout::HEIGHT];
-    if !(1..=8).contains(&height) || bytes[layout::SPARE] != 0 {
-        return Err(Refusal::Height);
-    }
-    if bytes.len() != key_length::<C>(height) {
-        return Err(Refusal::Layout);
-    }
+    let height = key::read::<H, C>(bytes)?;
     Ok(OpenedKey { bytes, height })
 }
 

@@ -1,34 +1,37 @@
 //! Verifying a release.
 
-ghost use Rattle.std.specs.Prelude.{◌≡◌};
-ghost use Rattle.tree.specs.Meaning.{hash_of, code_of};
+ghost use Rattle.std.specs.Prelude.{◌≡◌, ℕ, List};
+ghost use Rattle.records.specs.Causes.{Refuses};
+ghost use Rattle.records.specs.Keys.{Key};
+ghost use Rattle.tree.specs.Meaning.{Hash, Code, hash_of, code_of};
+ghost use Rattle.verifier.specs.Conditions.{Opening, OpenedWith, verify_causes};
 ghost use Rattle.verifier.specs.Rules.{verify_rule};
 ghost use Rattle.verifier.specs.Views.{key_of};
 
-use crate::release::read_release;
-use crate::{OpenedKey, Refusal};
+use crate::OpenedKey;
+use crate::reading::read_under;
 use codes::Code;
 use hashes::TreeHash;
-use std::marker::PhantomData;
+use records::Refusal;
 use strings::same;
-use tree::nodes::Joiner;
 
-/// The leaf number of a release record that is good for the stamp under the opened key.
+/// The leaf number of a release record that is good for the stamp, 16 bytes, under the opened key: the root rebuilt from the record
+/// is the key's. Refuses with 6, 7, 8, 10 and 11 as `read_under`, and then with 12, `Root`, a root unlike the key's.
 pub fn verify<H: TreeHash, C: Code>(
     key: &OpenedKey<'_>,
     stamp: &[u8; 16],
     bytes: &[u8],
 ) -> Result<u16, Refusal>
-    ensures { result ≡ verify_rule (hash_of H.ChainHash H.TreeHash.own) (code_of C.Code)
-        (key_of key.now) stamp.now bytes.now }
+    ensures answer { result ≡ verify_rule (hash_of H.TreeHash) (code_of C.Code) (key_of key.now)
+        stamp.now bytes.now }
+    ensures refuses { (hash : Hash) (code : Code) (by : Opening) (key : Key)
+        (stamp bytes : List ℕ) → OpenedWith by key →
+        Refuses (verify_causes hash code by key stamp bytes)
+        (verify_rule hash code key stamp bytes) }
 {
-    let release = read_release::<H, C>(key, bytes)?;
-    let joiner: Joiner<'_, H> = Joiner {
-        key: key.hash_key(),
-        masks: key.masks(),
-        hash: PhantomData,
-    };
-    let root = joiner.rebuild_root::<C>(key.height as usize, release.leaf, stamp, release.row);
+    let release = read_under::<H, C>(key, bytes)?;
+    let parameters = key.parameters();
+    let root = parameters.rebuild_root::<H, C>(release.leaf, stamp, release.row);
     if !same(&root, key.root()) {
         return Err(Refusal::Root);
     }

@@ -1,5 +1,4 @@
 -- All examples hold, group by group.
--- Assumes nothing.
 use Rattle.std.proofs.Common.{◌≡◌, ℕ, ◌++◌, List, replicate, get_or, refl, ap, arith, rules}
 use Rattle.std.proofs.ByRecursion.{All-append}
 use Rattle.examples.specs.Examples.{Right, hashing, coding, measuring, skipping, tracing, examples}

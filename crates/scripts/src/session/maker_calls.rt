@@ -39,7 +39,7 @@ fn held_nodes<H: TreeHash, C: Code>(maker: &Maker<H, C>) -> [Option<Node>; 9]
 
 fn grow<H: TreeHash, C: Code>(maker: &mut Maker<H, C>) -> Answer<'static>
     ensures answer { told result ≡ answered grown (grow_answer (making_of maker.old)) }
-    ensures state { making_of maker.new ≡ grow_leaves (hash_of H.ChainHash H.TreeHash.own)
+    ensures state { making_of maker.new ≡ grow_leaves (hash_of H.TreeHash)
         (code_of C.Code) (making_of maker.old) }
 {
     let mut work = [0; 4096];
@@ -54,9 +54,9 @@ pub(crate) fn while_growing<H: TreeHash, C: Code>(
     mut maker: Maker<H, C>,
     call: &Call<'_>,
 ) -> (Session<H, C>, Answer<'static>)
-    ensures answer { told result.1 ≡ reply (hash_of H.ChainHash H.TreeHash.own) (code_of C.Code)
+    ensures answer { told result.1 ≡ reply (hash_of H.TreeHash) (code_of C.Code)
         (growing (making_of maker)) (said call.now) }
-    ensures state { state_of result.0 ≡ leaves (hash_of H.ChainHash H.TreeHash.own) (code_of C.Code)
+    ensures state { state_of result.0 ≡ leaves (hash_of H.TreeHash) (code_of C.Code)
         (growing (making_of maker)) (said call.now) }
 {
     let answer = match call {

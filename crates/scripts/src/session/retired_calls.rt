@@ -19,9 +19,9 @@ pub(crate) fn out_of_service<'o, H: TreeHash, C: Code>(
     call: &Call<'_>,
     out: &'o mut [u8; MOST_ROOM],
 ) -> (Session<H, C>, Answer<'o>)
-    ensures answer { told result.1 ≡ reply (hash_of H.ChainHash H.TreeHash.own) (code_of C.Code)
+    ensures answer { told result.1 ≡ reply (hash_of H.TreeHash) (code_of C.Code)
         (retired (signing_of_retired signer)) (said call.now) }
-    ensures state { state_of result.0 ≡ leaves (hash_of H.ChainHash H.TreeHash.own) (code_of C.Code)
+    ensures state { state_of result.0 ≡ leaves (hash_of H.TreeHash) (code_of C.Code)
         (retired (signing_of_retired signer)) (said call.now) }
 {
     let answer = match call {

@@ -21,7 +21,7 @@ fn sign<'o, H: TreeHash, C: Code>(
     room: Room,
     out: &'o mut [u8; MOST_ROOM],
 ) -> Answer<'o>
-    ensures answer { told result ≡ sign_reply (hash_of H.ChainHash H.TreeHash.own) (code_of C.Code)
+    ensures answer { told result ≡ sign_reply (hash_of H.TreeHash) (code_of C.Code)
         (signing_of signer.old) stamp.now room.bytes }
     ensures state { signing_of signer.new ≡ sign_state (code_of C.Code) (signing_of signer.old)
         stamp.now (output room.bytes) }
@@ -53,9 +53,9 @@ pub(crate) fn in_service<'o, H: TreeHash, C: Code>(
     call: &Call<'_>,
     out: &'o mut [u8; MOST_ROOM],
 ) -> (Session<H, C>, Answer<'o>)
-    ensures answer { told result.1 ≡ reply (hash_of H.ChainHash H.TreeHash.own) (code_of C.Code)
+    ensures answer { told result.1 ≡ reply (hash_of H.TreeHash) (code_of C.Code)
         (serving (signing_of signer)) (said call.now) }
-    ensures state { state_of result.0 ≡ leaves (hash_of H.ChainHash H.TreeHash.own) (code_of C.Code)
+    ensures state { state_of result.0 ≡ leaves (hash_of H.TreeHash) (code_of C.Code)
         (serving (signing_of signer)) (said call.now) }
 {
     let answer = match call {

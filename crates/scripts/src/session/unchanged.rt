@@ -17,7 +17,7 @@ pub(crate) fn key<'o, H: TreeHash, C: Code>(
     room: Room,
     out: &'o mut [u8; MOST_ROOM],
 ) -> Answer<'o>
-    ensures { told result ≡ key_reply (hash_of H.ChainHash H.TreeHash.own) (code_of C.Code)
+    ensures { told result ≡ key_reply (hash_of H.TreeHash) (code_of C.Code)
         (signing_of signer.now) room.bytes }
 {
     let out = output_of(out, room);
@@ -33,7 +33,7 @@ pub(crate) fn trace<H: TreeHash, C: Code>(
     stamp: &[u8; 16],
     bytes: &[u8],
 ) -> Answer<'static>
-    ensures { told result ≡ trace_reply (hash_of H.ChainHash H.TreeHash.own) (code_of C.Code)
+    ensures { told result ≡ trace_reply (hash_of H.TreeHash) (code_of C.Code)
         (signing_of signer.now) stamp.now bytes.now }
 {
     let mut work = [0; 4096];

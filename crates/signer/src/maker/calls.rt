@@ -24,7 +24,7 @@ impl<H: TreeHash, C: Code> Maker<H, C> {
     pub fn begin(plan: Plan, seed: [u8; 16], hash_key: [u8; 16], masks: [u8; 512]) -> Maker<H, C>
         ensures state { making_of result ≡ begin_rule
             (record { seed = seed; hash_key = hash_key; masks = masks; height = height_of_plan plan }) }
-        ensures lived { Lived (hash_of H.ChainHash H.TreeHash.own) (code_of C.Code)
+        ensures lived { Lived (hash_of H.TreeHash) (code_of C.Code)
             (record { seed = seed; hash_key = hash_key; masks = masks; height = height_of_plan plan }) []
             (growing (making_of result)) }
     {
@@ -47,9 +47,9 @@ impl<H: TreeHash, C: Code> Maker<H, C> {
     pub fn grow(&mut self, work: &mut [u8; 4096]) -> Result<u16, Refusal>
         ensures answer { result ≡ grow_answer (making_of self.old) }
         ensures refuses { Refuses (grow_causes (making_of self.old)) result }
-        ensures state { making_of self.new ≡ grow_leaves (hash_of H.ChainHash H.TreeHash.own)
+        ensures state { making_of self.new ≡ grow_leaves (hash_of H.TreeHash)
             (code_of C.Code) (making_of self.old) }
-        ensures lived { Continues (hash_of H.ChainHash H.TreeHash.own) (code_of C.Code)
+        ensures lived { Continues (hash_of H.TreeHash) (code_of C.Code)
             (growing (making_of self.old)) (grow result) (growing (making_of self.new)) }
         ensures wiped { work.new ≡ replicate 4096 0 }
     {
@@ -72,7 +72,7 @@ impl<H: TreeHash, C: Code> Maker<H, C> {
     pub fn held(&self, level: u8) -> Option<(u16, [u8; 16])>
         ensures value { result ≡ held_rule (making_of self.now) level }
         ensures node { (b : ℕ) (s : List ℕ) → result ≡ Some (b, s) →
-            s ≡ node_at (hash_of H.ChainHash H.TreeHash.own) (code_of C.Code) (making_of self.now).origin level b }
+            s ≡ node_at (hash_of H.TreeHash) (code_of C.Code) (making_of self.now).origin level b }
     {
         if level > self.origin.height {
             return None;
@@ -87,11 +87,11 @@ impl<H: TreeHash, C: Code> Maker<H, C> {
 
     /// Grows whatever leaves are lacking, and puts the key into service. The work buffer is zero after.
     pub fn finish(self, work: &mut [u8; 4096]) -> Signer<H, C>
-        ensures state { signing_of result ≡ finish_rule (hash_of H.ChainHash H.TreeHash.own)
+        ensures state { signing_of result ≡ finish_rule (hash_of H.TreeHash)
             (code_of C.Code) (making_of self) }
-        ensures rooted { (signing_of result).root ≡ node_at (hash_of H.ChainHash H.TreeHash.own)
+        ensures rooted { (signing_of result).root ≡ node_at (hash_of H.TreeHash)
             (code_of C.Code) (signing_of result).origin 0 0 }
-        ensures lived { Continues (hash_of H.ChainHash H.TreeHash.own) (code_of C.Code)
+        ensures lived { Continues (hash_of H.TreeHash) (code_of C.Code)
             (growing (making_of self)) finish (serving (signing_of result)) }
         ensures wiped { work.new ≡ replicate 4096 0 }
     {

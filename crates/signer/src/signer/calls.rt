@@ -29,13 +29,13 @@ impl<H: TreeHash, C: Code> Signer<H, C> {
         ensures refuses { Refuses (sign_causes (code_of C.Code) (signing_of self.old) out.old) result }
         ensures state { signing_of self.new ≡ sign_state (code_of C.Code) (signing_of self.old)
             stamp.now out.old }
-        ensures output { out.new ≡ sign_output (hash_of H.ChainHash H.TreeHash.own) (code_of C.Code)
+        ensures output { out.new ≡ sign_output (hash_of H.TreeHash) (code_of C.Code)
             (signing_of self.old) stamp.now out.old }
         ensures accepts { (signing_of self.old).next < 2 ^ (signing_of self.old).origin.height →
-            Accepts (hash_of H.ChainHash H.TreeHash.own) (code_of C.Code) (signing_of self.old) stamp.now
-            (release_record (hash_of H.ChainHash H.TreeHash.own) (code_of C.Code) (signing_of self.old) stamp.now)
+            Accepts (hash_of H.TreeHash) (code_of C.Code) (signing_of self.old) stamp.now
+            (release_record (hash_of H.TreeHash) (code_of C.Code) (signing_of self.old) stamp.now)
             (signing_of self.old).next }
-        ensures lived { Continues (hash_of H.ChainHash H.TreeHash.own) (code_of C.Code)
+        ensures lived { Continues (hash_of H.TreeHash) (code_of C.Code)
             (serving (signing_of self.old)) (sign stamp.now out.old result out.new)
             (serving (signing_of self.new)) }
         ensures wiped { work.new ≡ replicate 4096 0 }
@@ -66,7 +66,7 @@ impl<H: TreeHash, C: Code> Signer<H, C> {
         ensures answer { result ≡ skip_answer (signing_of self.old) leaf }
         ensures refuses { Refuses (skip_causes (signing_of self.old) leaf) result }
         ensures state { signing_of self.new ≡ skip_state (signing_of self.old) leaf }
-        ensures lived { Continues (hash_of H.ChainHash H.TreeHash.own) (code_of C.Code)
+        ensures lived { Continues (hash_of H.TreeHash) (code_of C.Code)
             (serving (signing_of self.old)) (skip leaf result) (serving (signing_of self.new)) }
     {
         if leaf < self.next || leaf > 1 << self.origin.height {
@@ -79,9 +79,9 @@ impl<H: TreeHash, C: Code> Signer<H, C> {
     /// Takes the key out of service.
     pub fn retire(self) -> Retired<H, C>
         ensures state { signing_of_retired result ≡ signing_of self }
-        ensures lived { Continues (hash_of H.ChainHash H.TreeHash.own) (code_of C.Code)
+        ensures lived { Continues (hash_of H.TreeHash) (code_of C.Code)
             (serving (signing_of self)) retire (retired (signing_of_retired result)) }
-        ensures behind { HasLived (hash_of H.ChainHash H.TreeHash.own) (code_of C.Code)
+        ensures behind { HasLived (hash_of H.TreeHash) (code_of C.Code)
             (retired (signing_of_retired result)) }
     {
         Retired { signer: self }

@@ -25,14 +25,14 @@ impl<H: TreeHash, C: Code> Signer<H, C> {
     pub fn key(&self, out: &mut [u8]) -> Result<usize, Refusal>
         ensures answer { result ≡ key_answer (code_of C.Code) (signing_of self.now) out.old }
         ensures refuses { Refuses (key_causes (code_of C.Code) (signing_of self.now) out.old) result }
-        ensures output { out.new ≡ key_output (hash_of H.ChainHash H.TreeHash.own) (code_of C.Code)
+        ensures output { out.new ≡ key_output (hash_of H.TreeHash) (code_of C.Code)
             (signing_of self.now) out.old }
         ensures opens { open_rule H.ChainHash.NUMBER C.Code.NUMBER C.Code.LEVELS
-            (key_record (hash_of H.ChainHash H.TreeHash.own) (code_of C.Code) (signing_of self.now))
+            (key_record (hash_of H.TreeHash) (code_of C.Code) (signing_of self.now))
             ≡ Ok
-            (own_key (hash_of H.ChainHash H.TreeHash.own) (code_of C.Code) (signing_of self.now)) }
+            (own_key (hash_of H.TreeHash) (code_of C.Code) (signing_of self.now)) }
         ensures lived { (x : State) → IsSigner x (signing_of self.now) →
-            Continues (hash_of H.ChainHash H.TreeHash.own) (code_of C.Code) x
+            Continues (hash_of H.TreeHash) (code_of C.Code) x
             (key out.old result out.new) x }
     {
         let size = key_length::<C>(self.origin.height);
@@ -61,20 +61,20 @@ impl<H: TreeHash, C: Code> Signer<H, C> {
         report: &mut [u8; 64],
         work: &mut [u8; 4096],
     ) -> Result<(u8, u16, u16), Refusal>
-        ensures answer { result ≡ trace_answer (hash_of H.ChainHash H.TreeHash.own) (code_of C.Code)
+        ensures answer { result ≡ trace_answer (hash_of H.TreeHash) (code_of C.Code)
             (signing_of self.now) stamp.now bytes.now }
-        ensures refuses { Refuses (trace_causes (hash_of H.ChainHash H.TreeHash.own)
+        ensures refuses { Refuses (trace_causes (hash_of H.TreeHash)
             (code_of C.Code) (signing_of self.now) stamp.now bytes.now) result }
-        ensures report { report.new ≡ trace_report (hash_of H.ChainHash H.TreeHash.own)
+        ensures report { report.new ≡ trace_report (hash_of H.TreeHash)
             (code_of C.Code) (signing_of self.now) stamp.now bytes.now report.old }
-        ensures finds { Finds (hash_of H.ChainHash H.TreeHash.own) (code_of C.Code)
+        ensures finds { Finds (hash_of H.TreeHash) (code_of C.Code)
             (signing_of self.now) stamp.now bytes.now result report.new }
         ensures lived { (x : State) → IsSigner x (signing_of self.now) →
-            Continues (hash_of H.ChainHash H.TreeHash.own) (code_of C.Code) x
+            Continues (hash_of H.TreeHash) (code_of C.Code) x
             (trace stamp.now bytes.now report.old result report.new) x }
-        ensures promise { Promised (hash_of H.ChainHash H.TreeHash.own) (code_of C.Code)
+        ensures promise { Promised (hash_of H.TreeHash) (code_of C.Code)
             (signing_of self.now) stamp.now bytes.now result report.new }
-        ensures behind { HasLived (hash_of H.ChainHash H.TreeHash.own) (code_of C.Code)
+        ensures behind { HasLived (hash_of H.TreeHash) (code_of C.Code)
             (serving (signing_of self.now)) }
         ensures wiped { work.new ≡ replicate 4096 0 }
     {

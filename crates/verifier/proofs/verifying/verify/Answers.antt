@@ -1,12 +1,14 @@
 use Rattle.std.proofs.Common.{◌≡◌, ℕ, ◌+◌, ◌*◌, List, length, Ok, sym, ap, arith}
 use Rattle.std.proofs.lemmas.List.{length-drop}
 use Rattle.tree.specs.Meaning.{Code, code_of}
-use Rattle.verifier.specs.Keys.{Key, Shown}
-use Rattle.verifier.specs.Records.{masks_of}
+use Rattle.tree.specs.Nodes.{Parameters}
+use Rattle.records.specs.Keys.{Key, Shown}
+use Rattle.records.specs.Records.{masks_of}
 use Rattle.verifier.specs.Rules.{read_rule}
 use Rattle.verifier.specs.Views.{key_of}
 use Rattle.verifier.proofs.Facts.{suited-to, read-to}
-use Rattle.verifier.proofs.Reading.{key-parts}
+use Rattle.records.proofs.Reading.{key-parts}
+use Rattle.verifier.proofs.Refusing.{verify-refuses}
 use Rattle.verifier.proofs.verifying.verify.Goals as goal
 
 -- the masks of the key under which a release was read, and the row of the release, are whole
@@ -21,4 +23,15 @@ laid hash code key bytes shown p =
 pub rebuild_root-root-requires : goal.rebuild_root-root-requires
 rebuild_root-root-requires g c =
     let whole = laid g.H.ChainHash.NUMBER (code_of g.C.Code) (key_of c.args.key.now) c.args.bytes.now _ c.in_ok-release.ensures.answer in
-    record { masked = omega (arith, ap length c.masks.ensures, whole.0); within = omega (arith, whole.1) }
+    let masks : length c.parameters-parameters.result.masks.now ≡ length (masks_of (key_of c.args.key.now).bytes) = ap (λ p. length p.masks) c.parameters-parameters.ensures in
+    let height : c.parameters-parameters.result.height ≡ (key_of c.args.key.now).height = ap (λ p. p.height) c.parameters-parameters.ensures in
+    record { masked = omega (arith, masks, height, whole.0); within = omega (arith, height, whole.1) }
+
+pub returns-in_err-release-clause-refuses : goal.returns-in_err-release-clause-refuses
+returns-in_err-release-clause-refuses g c = verify-refuses
+
+pub returns-then-not-same-clause-refuses : goal.returns-then-not-same-clause-refuses
+returns-then-not-same-clause-refuses g c = verify-refuses
+
+pub returns-clause-refuses : goal.returns-clause-refuses
+returns-clause-refuses g c = verify-refuses

@@ -1,7 +1,7 @@
 use Rattle.std.proofs.Common.{◌≡◌, ◌+◌, ◌-◌, ◌/◌, ◌^◌, sym, ap, ◌∙◌, arith}
 use Rattle.std.proofs.lemmas.Nat.{shr-shr}
 use Rattle.strings.specs.Strings.{string_at}
-use Rattle.tree.specs.Meaning.{hash_of, code_of}
+use Rattle.tree.specs.Meaning.{hash_by, code_of}
 use Rattle.tree.specs.Nodes.{join}
 use Rattle.growth.specs.Shown.{sibling_of}
 use Rattle.growth.proofs.Paths.{shr-none, sibling-below}
@@ -27,7 +27,7 @@ grow_node-our_sibling-requires g c =
 
 pub returns : goal.returns
 returns g c =
-    let hash = hash_of g.H.ChainHash g.H.TreeHash in
+    let hash = hash_by g.H.ChainHash g.H.TreeHash in
     let code = code_of g.C.Code in
     let t = traced_of c.args.self.now in
     let h = t.origin.height in

@@ -1,5 +1,5 @@
 use Rattle.std.proofs.Common.{◌≡◌, ◌-◌, ◌/◌, ◌^◌, ◌≤◌}
-use Rattle.tree.specs.Meaning.{hash_of, code_of}
+use Rattle.tree.specs.Meaning.{hash_by, code_of}
 use Rattle.compare.specs.Search.{first_from, level_search}
 use Rattle.compare.specs.Sides.{our_node, their_node}
 use Rattle.compare.specs.Views.{traced_of}
@@ -7,7 +7,7 @@ use Rattle.compare.proofs.subject.Subject.climb_to_root.Given as goal
 
 abbrev pub invariant-loop-level : goal.invariant-loop-level
 invariant-loop-level g l =
-    let hash = hash_of g.H.ChainHash g.H.TreeHash in
+    let hash = hash_by g.H.ChainHash g.H.TreeHash in
     let code = code_of g.C.Code in
     let t = traced_of l.self in
     let h = t.origin.height in

@@ -1,6 +1,6 @@
 use Rattle.std.proofs.Common.{◌≡◌, sym, ◌∙◌, subst}
 use Rattle.std.specs.Option.{option_or}
-use Rattle.tree.specs.Meaning.{hash_of, code_of}
+use Rattle.tree.specs.Meaning.{hash_by, code_of}
 use Rattle.compare.specs.Found.{Found}
 use Rattle.compare.specs.Search.{chosen, found}
 use Rattle.compare.specs.Views.{traced_of}
@@ -12,13 +12,13 @@ use Rattle.compare.proofs.subject.Subject.compare.Goals as goal
 pub climb_to_root-root-requires : goal.climb_to_root-root-requires
 climb_to_root-root-requires g c =
     let rows = c.compare_chains-chains.ensures in
-    let leaf = leaf-nodes (hash_of g.H.ChainHash g.H.TreeHash) (code_of g.C.Code) (traced_of c.args.self.now) _ _ g.met.C.Code.level_range.1 rows.ours rows.theirs in
+    let leaf = leaf-nodes (hash_by g.H.ChainHash g.H.TreeHash) (code_of g.C.Code) (traced_of c.args.self.now) _ _ g.met.C.Code.level_range.1 rows.ours rows.theirs in
     record { ours = c.fold_both-leaf_node.ensures.ours ∙ leaf.0; theirs = c.fold_both-leaf_node.ensures.theirs ∙ leaf.1 }
 
 pub returns : goal.returns
 unfolding found
 returns g c =
-    let hash = hash_of g.H.ChainHash g.H.TreeHash in
+    let hash = hash_by g.H.ChainHash g.H.TreeHash in
     let code = code_of g.C.Code in
     let t = traced_of c.args.self.now in
     let rows = c.compare_chains-chains.ensures in

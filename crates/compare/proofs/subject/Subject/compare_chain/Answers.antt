@@ -1,5 +1,5 @@
 use Rattle.std.proofs.Common.{◌≡◌, ℕ, ◌+◌, ◌-◌, ap, ◌∙◌, arith}
-use Rattle.tree.specs.Meaning.{hash_of, code_of}
+use Rattle.tree.specs.Meaning.{hash_by, code_of}
 use Rattle.tree.specs.Nodes.{raise}
 use Rattle.growth.specs.Grown.{secret}
 use Rattle.growth.proofs.Leads.{raise-add}
@@ -11,7 +11,7 @@ use Rattle.compare.proofs.subject.Subject.compare_chain.Goals as goal
 
 pub returns : goal.returns
 returns g c =
-    let hash = hash_of g.H.ChainHash g.H.TreeHash in
+    let hash = hash_by g.H.ChainHash g.H.TreeHash in
     let code = code_of g.C.Code in
     let t = traced_of c.args.self.now in
     let step = hash.step t.origin.hash_key in

@@ -1,6 +1,6 @@
 use Rattle.std.proofs.Common.{◌≡◌, ◌-◌, sym, refl, ap, ◌∙◌, arith}
 use Rattle.strings.specs.Strings.{string_at}
-use Rattle.tree.specs.Meaning.{hash_of, code_of}
+use Rattle.tree.specs.Meaning.{hash_by, code_of}
 use Rattle.tree.specs.Nodes.{raise}
 use Rattle.tree.proofs.Laws.{one-time-none, one-time-more}
 use Rattle.growth.specs.Grown.{secret}
@@ -11,7 +11,7 @@ use Rattle.compare.proofs.subject.Subject.compare_chains.Goals as goal
 
 pub loop-k-init : goal.loop-k-init
 loop-k-init g c =
-    let hash = hash_of g.H.ChainHash g.H.TreeHash in
+    let hash = hash_by g.H.ChainHash g.H.TreeHash in
     let code = code_of g.C.Code in
     let t = traced_of c.args.self.now in
     let step = hash.step t.origin.hash_key in (
@@ -25,7 +25,7 @@ loop-k-init g c =
 
 pub loop-k-preserved : goal.loop-k-preserved
 loop-k-preserved g c =
-    let hash = hash_of g.H.ChainHash g.H.TreeHash in
+    let hash = hash_by g.H.ChainHash g.H.TreeHash in
     let code = code_of g.C.Code in
     let t = traced_of c.args.self.now in
     let step = hash.step t.origin.hash_key in

@@ -1,6 +1,6 @@
 use Rattle.std.proofs.Common.{◌≡◌, ℕ, ◌<◌, length}
 use Rattle.strings.specs.Strings.{string_at}
-use Rattle.tree.specs.Meaning.{hash_of, code_of}
+use Rattle.tree.specs.Meaning.{hash_by, code_of}
 use Rattle.tree.specs.Nodes.{one_time}
 use Rattle.growth.specs.Grown.{secret}
 use Rattle.compare.specs.Search.{first_from, height_search, hidden_find_at}
@@ -10,7 +10,7 @@ use Rattle.compare.proofs.subject.Subject.compare_chains.Given as goal
 -- so far the rows are those of a leaf with k chains, and the finds are those of its first k chains
 abbrev pub invariant-loop-k : goal.invariant-loop-k
 invariant-loop-k g l =
-    let hash = hash_of g.H.ChainHash g.H.TreeHash in
+    let hash = hash_by g.H.ChainHash g.H.TreeHash in
     let code = code_of g.C.Code in
     let t = traced_of l.self in
     let step = hash.step t.origin.hash_key in

@@ -1,6 +1,7 @@
 use Rattle.std.proofs.Common.{◌≡◌, ◌-◌, ◌≤◌, length}
-use Rattle.tree.specs.Meaning.{hash_of, code_of}
-use Rattle.growth.specs.Grown.{parent_at, Holds, carry, with_leaf}
+use Rattle.tree.specs.Meaning.{hash_by, code_of}
+use Rattle.tree.specs.Nodes.{parent_at}
+use Rattle.growth.specs.Grown.{parameters, Holds, carry, with_leaf}
 use Rattle.growth.proofs.Carries.{Comes}
 use Rattle.growth.proofs.Trees.{Fills}
 use Rattle.growth.proofs.origin.Tree.add_leaf.Given as goal
@@ -9,7 +10,7 @@ use Rattle.growth.proofs.origin.Tree.add_leaf.Given as goal
 -- comes in there; and what is left to join gives the same
 abbrev pub invariant-loop-position : goal.invariant-loop-position
 invariant-loop-position g l =
-    let hash = hash_of g.H.ChainHash g.H.TreeHash in
+    let hash = hash_by g.H.ChainHash g.H.TreeHash in
     let code = code_of g.C.Code in
     let o = l.self.origin.now in
     (l.level ≤ o.height)
@@ -17,7 +18,7 @@ invariant-loop-position g l =
     × (length l.node ≡ 16)
     × (length l.nodes ≡ 144)
     × (Holds hash code o l.grown l.initial.nodes → Comes hash code o l.grown l.level l.position l.node l.nodes)
-    × (carry (parent_at hash o) l.level l.position l.node l.nodes ≡ with_leaf hash code o l.grown l.initial.nodes)
+    × (carry (parent_at hash (parameters o)) l.level l.position l.node l.nodes ≡ with_leaf hash code o l.grown l.initial.nodes)
 
 abbrev pub decreases-loop-position : goal.decreases-loop-position
 decreases-loop-position g l = l.position

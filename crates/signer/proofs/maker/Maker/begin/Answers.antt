@@ -5,7 +5,7 @@ use Rattle.histories.specs.Histories.{growing, Lived}
 use Rattle.histories.specs.Rules.{begin_rule}
 use Rattle.histories.specs.States.{Making}
 use Rattle.histories.proofs.Continuing.{begin-lives}
-use Rattle.tree.specs.Meaning.{hash_of, code_of}
+use Rattle.tree.specs.Meaning.{hash_by, code_of}
 use Rattle.signer.specs.Views.{height_of_plan}
 use Rattle.signer.proofs.Held.{begun-from}
 use Rattle.signer.proofs.maker.Maker.begin.Given as given
@@ -25,15 +25,15 @@ module _ (g : given.Over) (c : After-height-height g) where
   small : (i : ℕ) → (get_or c.args.seed i 0 < 256) × (get_or c.args.hash_key i 0 < 256) × (get_or c.args.masks i 0 < 256)
   small = search rules
 
-  lives : Lived (hash_of g.H.ChainHash g.H.TreeHash) (code_of g.C.Code) given_of [] (growing made)
-  lives = begin-lives (hash_of g.H.ChainHash g.H.TreeHash) (code_of g.C.Code) given_of made (begun-from given_of c.args.plan.tall (search rules) (search rules) (search rules) small) begun
+  lives : Lived (hash_by g.H.ChainHash g.H.TreeHash) (code_of g.C.Code) given_of [] (growing made)
+  lives = begin-lives (hash_by g.H.ChainHash g.H.TreeHash) (code_of g.C.Code) given_of made (begun-from given_of c.args.plan.tall (search rules) (search rules) (search rules) small) begun
 
 pub returns : goal.returns
 returns g c = let at = (goal.at.returns g c).After-height-height in record { state = begun g at; lived = lives g at }
 
 pub invariant_of-result-clause-holds : goal.invariant_of-result-clause-holds
 invariant_of-result-clause-holds g c =
-    holds-none (hash_of g.H.ChainHash g.H.TreeHash) (code_of g.C.Code) (record { seed = c.args.seed; hash_key = c.args.hash_key; masks = c.args.masks; height = c.height-height.result })
+    holds-none (hash_by g.H.ChainHash g.H.TreeHash) (code_of g.C.Code) (record { seed = c.args.seed; hash_key = c.args.hash_key; masks = c.args.masks; height = c.height-height.result })
 
 pub invariant_of-result-clause-bytes : goal.invariant_of-result-clause-bytes
 invariant_of-result-clause-bytes g c = small g (goal.at.invariant_of-result-clause-bytes g c).After-height-height

@@ -6,7 +6,7 @@ use Rattle.histories.specs.Rules.{finish_rule}
 use Rattle.histories.proofs.Continuing.{finish-continues, lives-on}
 use Rattle.growth.proofs.Trees.{holds-root}
 use Rattle.strings.specs.Strings.{string_at}
-use Rattle.tree.specs.Meaning.{Hash, Code, hash_of, code_of}
+use Rattle.tree.specs.Meaning.{Hash, Code, hash_by, code_of}
 use Rattle.signer.specs.Views.{making_of}
 use Rattle.signer.proofs.Ledgers.{empty-fresh}
 use Rattle.signer.proofs.Growing.{leaves-turn, leaves_all}
@@ -16,7 +16,7 @@ use Rattle.signer.proofs.maker.Maker.finish.Goals.{After-string_at-root}
 
 pub loop-leaf-preserved : goal.loop-leaf-preserved
 loop-leaf-preserved g c =
-    let hash = hash_of g.H.ChainHash g.H.TreeHash in
+    let hash = hash_by g.H.ChainHash g.H.TreeHash in
     let code = code_of g.C.Code in
     let o = c.args.self.origin in
     let tall = c.args.self.tall in
@@ -30,7 +30,7 @@ loop-leaf-preserved g c =
 
 module _ (g : given.Over) (c : After-string_at-root g) where
   abbrev hash : Hash
-  hash = hash_of g.H.ChainHash g.H.TreeHash
+  hash = hash_by g.H.ChainHash g.H.TreeHash
 
   abbrev code : Code
   code = code_of g.C.Code

@@ -1,13 +1,13 @@
 use Rattle.std.proofs.Common.{◌≡◌, ◌-◌, ◌^◌, ◌≤◌, length}
 use Rattle.growth.specs.Grown.{Holds}
 use Rattle.histories.specs.Rules.{leaves_more}
-use Rattle.tree.specs.Meaning.{hash_of, code_of}
+use Rattle.tree.specs.Meaning.{hash_by, code_of}
 use Rattle.signer.proofs.maker.Maker.finish.Given as goal
 
 -- the leaves that are still lacking lead to the same end
 abbrev pub invariant-loop-leaf : goal.invariant-loop-leaf
 invariant-loop-leaf g l =
-    let hash = hash_of g.H.ChainHash g.H.TreeHash in
+    let hash = hash_by g.H.ChainHash g.H.TreeHash in
     let code = code_of g.C.Code in
     let all = 2 ^ l.origin.height in
     (l.leaf ≤ all)

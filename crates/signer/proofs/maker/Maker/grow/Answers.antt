@@ -4,7 +4,7 @@ use Rattle.histories.specs.Rules.{grow_answer, grow_leaves}
 use Rattle.histories.specs.States.{Making}
 use Rattle.histories.proofs.Continuing.{grow-continues, lives-on}
 use Rattle.histories.proofs.Refusing.{grow-refuses}
-use Rattle.tree.specs.Meaning.{hash_of, code_of}
+use Rattle.tree.specs.Meaning.{hash_by, code_of}
 use Rattle.verifier.specs.declared.refusal.Refusal.TheVariants.{Grown}
 use Rattle.signer.specs.Views.{making_of}
 use Rattle.signer.proofs.maker.Maker.grow.Given as given
@@ -13,7 +13,7 @@ use Rattle.signer.proofs.maker.Maker.grow.Goals.{After-add_leaf}
 
 pub returns-then-self : goal.returns-then-self
 returns-then-self g c =
-    let hash = hash_of g.H.ChainHash g.H.TreeHash in
+    let hash = hash_by g.H.ChainHash g.H.TreeHash in
     let code = code_of g.C.Code in
     let m = making_of c.args.self.now in
     let answer : Err Grown ≡ grow_answer m = search rules in
@@ -36,11 +36,11 @@ module _ (g : given.Over) (c : After-add_leaf g) where
   answers : Ok (before.grown + 1) ≡ grow_answer before
   answers = search rules
 
-  leaves : later ≡ grow_leaves (hash_of g.H.ChainHash g.H.TreeHash) (code_of g.C.Code) before
+  leaves : later ≡ grow_leaves (hash_by g.H.ChainHash g.H.TreeHash) (code_of g.C.Code) before
   leaves = search rules
 
-  continues : Continues (hash_of g.H.ChainHash g.H.TreeHash) (code_of g.C.Code) (growing before) (grow (Ok (before.grown + 1))) (growing later)
-  continues = grow-continues (hash_of g.H.ChainHash g.H.TreeHash) (code_of g.C.Code) before later (Ok (before.grown + 1)) answers leaves
+  continues : Continues (hash_by g.H.ChainHash g.H.TreeHash) (code_of g.C.Code) (growing before) (grow (Ok (before.grown + 1))) (growing later)
+  continues = grow-continues (hash_by g.H.ChainHash g.H.TreeHash) (code_of g.C.Code) before later (Ok (before.grown + 1)) answers leaves
 
 pub returns : goal.returns
 returns g c =
@@ -56,4 +56,4 @@ returns g c =
 pub invariant_of-self-clause-lived : goal.invariant_of-self-clause-lived
 invariant_of-self-clause-lived g c =
     let at = (goal.at.invariant_of-self-clause-lived g c).After-add_leaf in
-    lives-on (hash_of g.H.ChainHash g.H.TreeHash) (code_of g.C.Code) _ _ _ (continues g at) c.args.self.now.lived
+    lives-on (hash_by g.H.ChainHash g.H.TreeHash) (code_of g.C.Code) _ _ _ (continues g at) c.args.self.now.lived

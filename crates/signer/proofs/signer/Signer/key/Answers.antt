@@ -1,6 +1,6 @@
 use Rattle.std.proofs.Common.{◌≡◌, ℕ, ◌+◌, ◌-◌, ◌*◌, List, length, take, Ok, Err, Result, arith, rules}
 use Rattle.std.proofs.lemmas.List.{length-take-le}
-use Rattle.tree.specs.Meaning.{Hash, Code, hash_of, code_of}
+use Rattle.tree.specs.Meaning.{Hash, Code, hash_by, code_of}
 use Rattle.verifier.specs.declared.refusal.Refusal.{Refusal}
 use Rattle.verifier.specs.declared.refusal.Refusal.TheVariants.{Output}
 use Rattle.verifier.specs.Rules.{open_rule}
@@ -19,7 +19,7 @@ use Rattle.signer.proofs.signer.Signer.key.Goals.{Start}
 
 module _ (g : given.Over) (c : Start g) where
   abbrev hash : Hash
-  hash = hash_of g.H.ChainHash g.H.TreeHash
+  hash = hash_by g.H.ChainHash g.H.TreeHash
 
   abbrev code : Code
   code = code_of g.C.Code

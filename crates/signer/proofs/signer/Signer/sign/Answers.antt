@@ -1,7 +1,7 @@
 use Rattle.std.proofs.Common.{◌≡◌, ℕ, ◌+◌, ◌*◌, ◌%◌, ◌^◌, ◌<◌, ◌≤◌, List, Ok, Err, Result, refl, arith, rules, pow_mono}
 use Rattle.std.proofs.lemmas.Nat.{one_shl}
 use Rattle.strings.proofs.Laws.{str-from}
-use Rattle.tree.specs.Meaning.{Hash, Code, hash_of, code_of}
+use Rattle.tree.specs.Meaning.{Hash, Code, hash_by, code_of}
 use Rattle.verifier.specs.declared.refusal.Refusal.{Refusal}
 use Rattle.verifier.specs.declared.refusal.Refusal.TheVariants.{Spent, Output}
 use Rattle.verifier.specs.Causes.{Refuses}
@@ -21,7 +21,7 @@ use Rattle.signer.proofs.signer.Signer.sign.Goals.{Start}
 
 module _ (g : given.Over) (c : Start g) where
   abbrev hash : Hash
-  hash = hash_of g.H.ChainHash g.H.TreeHash
+  hash = hash_by g.H.ChainHash g.H.TreeHash
 
   abbrev code : Code
   code = code_of g.C.Code

@@ -2,7 +2,7 @@ use Rattle.std.proofs.Common.{◌≡◌, Ok, Err, rules}
 use Rattle.histories.specs.Rules.{skip_answer, skip_state}
 use Rattle.histories.proofs.Continuing.{skip-continues, lives-on}
 use Rattle.histories.proofs.Refusing.{skip-refuses}
-use Rattle.tree.specs.Meaning.{hash_of, code_of}
+use Rattle.tree.specs.Meaning.{hash_by, code_of}
 use Rattle.verifier.specs.declared.refusal.Refusal.TheVariants.{Skip}
 use Rattle.signer.specs.Views.{signing_of}
 use Rattle.signer.proofs.signer.Signer.skip.Goals as goal
@@ -16,7 +16,7 @@ returns-then-leaf-self g c =
       answer = answer;
       refuses = skip-refuses s c.args.leaf (Err Skip) answer;
       state = state;
-      lived = skip-continues (hash_of g.H.ChainHash g.H.TreeHash) (code_of g.C.Code) s s c.args.leaf (Err Skip) answer state;
+      lived = skip-continues (hash_by g.H.ChainHash g.H.TreeHash) (code_of g.C.Code) s s c.args.leaf (Err Skip) answer state;
     }
 
 pub returns : goal.returns
@@ -28,12 +28,12 @@ returns g c =
       answer = answer;
       refuses = skip-refuses s c.args.leaf (Ok c.args.leaf) answer;
       state = state;
-      lived = skip-continues (hash_of g.H.ChainHash g.H.TreeHash) (code_of g.C.Code) s _ c.args.leaf (Ok c.args.leaf) answer state;
+      lived = skip-continues (hash_by g.H.ChainHash g.H.TreeHash) (code_of g.C.Code) s _ c.args.leaf (Ok c.args.leaf) answer state;
     }
 
 pub invariant_of-self-clause-lived : goal.invariant_of-self-clause-lived
 invariant_of-self-clause-lived g c =
-    let hash = hash_of g.H.ChainHash g.H.TreeHash in
+    let hash = hash_by g.H.ChainHash g.H.TreeHash in
     let code = code_of g.C.Code in
     let s = signing_of c.args.self.now in
     let answer : Ok c.args.leaf ≡ skip_answer s c.args.leaf = search rules in

@@ -13,7 +13,7 @@ use Rattle.histories.proofs.Refusing.{trace-refuses}
 use Rattle.histories.proofs.Promised.{promised}
 use Rattle.histories.proofs.Tracing.{ByRule, ReadsOwn, unread, misled, led}
 use Rattle.strings.proofs.Laws.{str-from}
-use Rattle.tree.specs.Meaning.{Hash, Code, hash_of, code_of}
+use Rattle.tree.specs.Meaning.{Hash, Code, hash_by, code_of}
 use Rattle.verifier.specs.Views.{shown_by}
 use Rattle.verifier.specs.declared.refusal.Refusal.{Refusal}
 use Rattle.verifier.proofs.Facts.{bytes-from}
@@ -25,7 +25,7 @@ use Rattle.signer.proofs.signer.Signer.trace.Goals.{Start}
 
 module _ (g : given.Over) (c : Start g) where
   abbrev hash : Hash
-  hash = hash_of g.H.ChainHash g.H.TreeHash
+  hash = hash_by g.H.ChainHash g.H.TreeHash
 
   abbrev code : Code
   code = code_of g.C.Code

@@ -1,0 +1,42 @@
+//! What an origin gives: the tree's parameters, and from its seed the secrets and the chains over them.
+
+ghost use Rattle.std.specs.Prelude.{◌≡◌, length};
+ghost use Rattle.growth.specs.Grown.{parameters, secret, chain_string};
+ghost use Rattle.tree.specs.Meaning.{hash_of};
+ghost use Rattle.tree.specs.Rows.{masks_size};
+ghost use Rattle.tree.specs.Views.{parameters_of};
+
+use crate::Origin;
+use hashes::TreeHash;
+use strings::numeral;
+use tree::Parameters;
+use tree::chains::raise_chain;
+
+impl Origin {
+    /// The parameters of the tree, apart from its seed.
+    pub fn parameters(&self) -> Parameters<'_>
+        ensures value { parameters_of result ≡ parameters self.now }
+        ensures long { length result.masks.now ≡ masks_size }
+    {
+        Parameters {
+            hash_key: &self.hash_key,
+            masks: &self.masks,
+            height: self.height,
+        }
+    }
+
+    // The secret of a leaf's chain. No other function makes one from the seed.
+    fn secret<H: TreeHash>(&self, leaf: u16, chain: usize) -> [u8; 16]
+        ensures { result ≡ secret (hash_of H.TreeHash) self.now leaf chain }
+    {
+        H::pair(&self.seed, &numeral(leaf as u128), &numeral(chain as u128))
+    }
+
+    /// The string of a leaf's chain at a height.
+    pub fn chain_string<H: TreeHash>(&self, leaf: u16, chain: usize, height: u8) -> [u8; 16]
+        ensures { result ≡ chain_string (hash_of H.TreeHash) self.now leaf chain height }
+    {
+        let secret = self.secret::<H>(leaf, chain);
+        raise_chain::<H>(&self.hash_key, &secret, height)
+    }
+}

@@ -1,0 +1,10 @@
+pub mod Causes
+pub mod Conditions
+pub mod Heads
+pub mod Keys
+pub mod Kinds
+pub mod Reads
+pub mod Records
+pub mod Refusals
+pub mod Rules
+pub mod Views

@@ -1,0 +1,66 @@
+-- The two records as bytes: what writing one yields, and where its parts lie.
+use Rattle.std.specs.Prelude.{ℕ, zero, suc, ◌+◌, ◌-◌, ◌*◌, List, ◌∷◌, ◌++◌, length, take, drop}
+use Rattle.std.specs.Prelude.{slice_index}
+use Rattle.strings.specs.Strings.{little_endian}
+use Rattle.records.specs.Kinds.{kind_number}
+use Rattle.records.specs.declared.kind.RecordKind.{RecordKind}
+use Rattle.records.specs.declared.kind.RecordKind.TheVariants as kind
+
+-- a record: its whole length in 4 bytes, its kind in 2 bytes, then its body
+abbrev pub framed : RecordKind → List ℕ → List ℕ
+framed kind body =
+    little_endian 4 (6 + length body) ++ (little_endian 2 (kind_number kind) ++ body)
+
+-- a key record: hash number, code number, height and a spare 0 in a byte each; hash key, masks, root
+abbrev pub key_bytes : ℕ → ℕ → ℕ → List ℕ → List ℕ → List ℕ → List ℕ
+key_bytes hash code height hash_key masks root =
+    framed kind.Key (hash ∷ (code ∷ (height ∷ (0 ∷ (hash_key ++ (masks ++ root))))))
+
+-- a release record: leaf number in 2 bytes; a string for each chain, then the siblings
+abbrev pub release_bytes : ℕ → List ℕ → List ℕ
+release_bytes leaf row = framed kind.Release (little_endian 2 leaf ++ row)
+
+-- the number in n bytes from place i on, little-endian
+abbrev pub field : List ℕ → ℕ → ℕ → ℕ
+field bytes i zero = 0
+field bytes i (suc n) = slice_index bytes i + 256 * field bytes (suc i) n
+
+-- the whole length of a key record of height h, and of a release record with `count` chains
+abbrev pub key_length : ℕ → ℕ → ℕ
+key_length h levels = 42 + 32 * (h + levels)
+
+abbrev pub release_length : ℕ → ℕ → ℕ
+release_length count h = 8 + 16 * (count + h)
+
+-- as many bytes as a release record has at most: 256 chains and 8 siblings
+abbrev pub longest_release : ℕ
+longest_release = 4232
+
+-- the parts of a key record
+abbrev pub hash_number_of : List ℕ → ℕ
+hash_number_of bytes = slice_index bytes 6
+
+abbrev pub code_number_of : List ℕ → ℕ
+code_number_of bytes = slice_index bytes 7
+
+abbrev pub height_of : List ℕ → ℕ
+height_of bytes = slice_index bytes 8
+
+abbrev pub spare_of : List ℕ → ℕ
+spare_of bytes = slice_index bytes 9
+
+abbrev pub hash_key_of : List ℕ → List ℕ
+hash_key_of bytes = take 16 (drop 10 bytes)
+
+abbrev pub masks_of : List ℕ → List ℕ
+masks_of bytes = take (length bytes - 42) (drop 26 bytes)
+
+abbrev pub root_of : List ℕ → List ℕ
+root_of bytes = take 16 (drop (length bytes - 16) bytes)
+
+-- the parts of a release record
+abbrev pub leaf_of : List ℕ → ℕ
+leaf_of bytes = field bytes 6 2
+
+abbrev pub row_of : List ℕ → List ℕ
+row_of bytes = drop 8 bytes

@@ -1,0 +1,62 @@
+//! What both kinds of record begin with.
+
+ghost use Rattle.std.specs.Prelude.{◌≡◌, ◌≤◌, ◌<◌, ◌^◌, ◌++◌, length, take, drop};
+ghost use Rattle.std.specs.Option.{option_map};
+ghost use Rattle.strings.specs.Strings.{little_endian};
+ghost use Rattle.records.specs.Heads.{head_of};
+ghost use Rattle.records.specs.Kinds.{kind_number};
+ghost use Rattle.records.specs.Rules.{seen, header_rule};
+ghost use Rattle.records.specs.Views.{head_by};
+
+use crate::{RecordKind, Refusal};
+use strings::put;
+
+/// The length field and the kind of a record, and the bytes after them, which are its body where the length is right.
+#[derive(Clone, Copy)]
+pub struct Header<'a> {
+    pub length: u32,
+    pub kind: u16,
+    pub body: &'a [u8],
+}
+
+/// The header of a record, little-endian: its length in 4 bytes and its kind in 2. None where there are fewer than 6 bytes. All
+/// reading of records begins here.
+pub fn split_header(bytes: &[u8]) -> Option<Header<'_>>
+    ensures { option_map head_by result ≡ head_of bytes.now }
+{
+    let [a, b, c, d, e, f, body @ ..] = bytes else {
+        return None;
+    };
+    let length = u32::from_le_bytes([*a, *b, *c, *d]);
+    let kind = u16::from_le_bytes([*e, *f]);
+    Some(Header { length, kind, body })
+}
+
+/// The body of a record of this kind: what follows its 6 bytes of length and kind. Refuses with 6, `Length`, fewer than 10 bytes or a
+/// length field that differs from their number, and then with 7, `Kind`, another kind.
+pub fn body_of(bytes: &[u8], kind: RecordKind) -> Result<&[u8], Refusal>
+    ensures { seen (λ x. x.now) result ≡ header_rule kind bytes.now }
+{
+    let Some(header) = split_header(bytes) else {
+        return Err(Refusal::Length);
+    };
+    if bytes.len() < 10 || header.length as usize != bytes.len() {
+        return Err(Refusal::Length);
+    }
+    if header.kind != kind.number() {
+        return Err(Refusal::Kind);
+    }
+    Ok(header.body)
+}
+
+/// Writes what every record begins with: its length and its kind. The bytes after these 6 stay.
+pub(crate) fn write_header(out: &mut [u8], kind: RecordKind, size: usize)
+    requires room { 6 ≤ length out.old }
+    requires short { size < 2 ^ 32 }
+    ensures front { take 6 out.new ≡ little_endian 4 size ++ little_endian 2 (kind_number kind) }
+    ensures back { drop 6 out.new ≡ drop 6 out.old }
+{
+    let [a, b, c, d] = (size as u32).to_le_bytes();
+    let [e, f] = kind.number().to_le_bytes();
+    put(out, 0, &[a, b, c, d, e, f]);
+}

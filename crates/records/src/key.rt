@@ -1,0 +1,91 @@
+//! Key records.
+
+ghost use Rattle.std.specs.Prelude.{◌≡◌, ◌+◌, ◌<◌, ◌≤◌, ◌^◌, ◌++◌, length, drop};
+ghost use Rattle.records.specs.Keys.{key_of_height};
+ghost use Rattle.records.specs.Reads.{ReadsKeys};
+ghost use Rattle.records.specs.Records.{framed, key_bytes, hash_key_of, masks_of, root_of};
+ghost use Rattle.records.specs.Rules.{seen, open_rule};
+ghost use Rattle.records.specs.declared.kind.RecordKind.TheVariants as kind;
+
+use crate::header::{body_of, write_header};
+use crate::{RecordKind, Refusal, key_length, layout};
+use codes::Code;
+use hashes::ChainHash;
+use strings::put;
+use tree::Parameters;
+
+/// Reads a key record for a verifier with hash `H` and code `C`, and answers its height. Refuses with 6 and 7 as `body_of`; with 8,
+/// `Parameters`, another hash or code number; with 9, `Height`, a height outside 1 to 8 or a spare byte other than 0; with 10,
+/// `Layout`, another byte count than the layout's.
+pub fn read<H: ChainHash, C: Code>(bytes: &[u8]) -> Result<u8, Refusal>
+    ensures answer { seen (key_of_height bytes.now) result
+        ≡ open_rule H.ChainHash.NUMBER C.Code.NUMBER C.Code.LEVELS bytes.now }
+    ensures reads { ReadsKeys H.ChainHash.NUMBER C.Code.NUMBER C.Code.LEVELS bytes.now
+        (seen (key_of_height bytes.now) result) }
+{
+    body_of(bytes, RecordKind::Key)?;
+    if bytes[layout::HASH_NUMBER] != H::NUMBER || bytes[layout::CODE_NUMBER] != C::NUMBER {
+        return Err(Refusal::Parameters);
+    }
+    let height = bytes[layout::HEIGHT];
+    if !(1..=8).contains(&height) || bytes[layout::SPARE] != 0 {
+        return Err(Refusal::Height);
+    }
+    if bytes.len() != key_length::<C>(height) {
+        return Err(Refusal::Layout);
+    }
+    Ok(height)
+}
+
+/// The hash key of a key record, 16 bytes.
+pub fn hash_key(bytes: &[u8]) -> &[u8; 16]
+    requires { 42 ≤ length bytes.now }
+    ensures { result.now ≡ hash_key_of bytes.now }
+{
+    bytes[layout::HASH_KEY..].first_chunk().unwrap()
+}
+
+/// The masks of a key record, 32 bytes for each level from the root down.
+pub fn masks(bytes: &[u8]) -> &[u8]
+    requires { 42 ≤ length bytes.now }
+    ensures { result.now ≡ masks_of bytes.now }
+{
+    &bytes[layout::MASKS..][..bytes.len() - layout::BESIDE_MASKS]
+}
+
+/// The root of a key record, its last 16 bytes.
+pub fn root(bytes: &[u8]) -> &[u8; 16]
+    requires { 42 ≤ length bytes.now }
+    ensures { result.now ≡ root_of bytes.now }
+{
+    bytes.last_chunk().unwrap()
+}
+
+// Writes a key record at the start of the output; the bytes past it stay. `names` is the hash number, the code number, the height
+// and the spare byte.
+fn write_parts(out: &mut [u8], names: &[u8; 4], hash_key: &[u8; 16], masks: &[u8], root: &[u8; 16])
+    requires room { 42 + length masks.now ≤ length out.old }
+    requires short { 42 + length masks.now < 2 ^ 32 }
+    ensures { out.new ≡ framed kind.Key (names.now ++ (hash_key.now ++ (masks.now ++ root.now)))
+        ++ drop (42 + length masks.now) out.old }
+{
+    let size = layout::BESIDE_MASKS + masks.len();
+    write_header(out, RecordKind::Key, size);
+    // Copies, so that what is written cannot lie under what is read: else the compiler tests for that each time.
+    put(out, layout::BODY, &{ *names });
+    put(out, layout::HASH_KEY, &{ *hash_key });
+    put(out, layout::MASKS, masks);
+    put(out, layout::MASKS + masks.len(), &{ *root });
+}
+
+/// Writes the key record of a tree with these parameters and this root at the start of the output; the bytes past it stay.
+pub fn write<H: ChainHash, C: Code>(out: &mut [u8], parameters: &Parameters<'_>, root: &[u8; 16])
+    requires room { 42 + length parameters.now.masks.now ≤ length out.old }
+    requires short { 42 + length parameters.now.masks.now < 2 ^ 32 }
+    ensures { out.new ≡ key_bytes H.ChainHash.NUMBER C.Code.NUMBER parameters.now.height
+        parameters.now.hash_key.now parameters.now.masks.now root.now
+        ++ drop (42 + length parameters.now.masks.now) out.old }
+{
+    let names = [H::NUMBER, C::NUMBER, parameters.height, 0];
+    write_parts(out, &names, parameters.hash_key, parameters.masks, root);
+}

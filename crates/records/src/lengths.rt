@@ -1,0 +1,24 @@
+//! How long the records are.
+
+ghost use Rattle.std.specs.Prelude.{◌≡◌};
+ghost use Rattle.records.specs.Records.{key_length, release_length};
+
+use crate::layout;
+use codes::Code;
+
+/// The bytes of the longest release record: 256 chains and 8 siblings.
+pub const LONGEST_RELEASE: usize = 4232;
+
+/// The bytes of the key record of a key of this height.
+pub fn key_length<C: Code>(height: u8) -> usize
+    ensures { result ≡ key_length height C.Code.LEVELS }
+{
+    layout::BESIDE_MASKS + 32 * (height as usize + C::LEVELS as usize)
+}
+
+/// The bytes of a release record under a key of this height.
+pub fn release_length<C: Code>(height: u8) -> usize
+    ensures { result ≡ release_length C.Code.COUNT height }
+{
+    layout::ROW + 16 * (C::COUNT + height as usize)
+}

@@ -1,0 +1,16 @@
+//! The records as bytes: framing, kinds, layout and lengths, refusals, and the reading and writing of both kinds.
+#![tactic(auto)]
+
+mod header;
+pub mod key;
+mod kind;
+pub mod layout;
+mod lengths;
+mod refusal;
+mod release;
+
+pub use header::{Header, body_of, split_header};
+pub use kind::RecordKind;
+pub use lengths::{LONGEST_RELEASE, key_length, release_length};
+pub use refusal::Refusal;
+pub use release::{Release, ReleaseRow, parts_of, read_release, write_release};

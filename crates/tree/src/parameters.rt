@@ -1,0 +1,12 @@
+//! The parameters of a tree.
+
+/// What a tree is made with, apart from its secrets; whoever has a key record has these too.
+#[derive(Clone, Copy)]
+pub struct Parameters<'a> {
+    /// The key under which chains step and nodes join.
+    pub hash_key: &'a [u8; 16],
+    /// The bitmasks, a row of strings: string 2a is the left mask of level a, string 2a + 1 the right one.
+    pub masks: &'a [u8],
+    /// The tree has 2^height leaves.
+    pub height: u8,
+}
