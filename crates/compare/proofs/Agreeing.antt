@@ -1,14 +1,15 @@
 -- What each side has along a chain, at the bottom of the leaf, beside the way up and in the whole row.
-use Rattle.std.proofs.Common.{◌≡◌, ℕ, ◌+◌, ◌-◌, ◌*◌, ◌/◌, ◌^◌, ◌<◌, ◌≤◌, ltb, List, length, sym, ap, ◌∙◌, subst, ⊎_elim, arith, lt-ltb, rules}
-use Rattle.std.proofs.lemmas.Bool.{cases_lt, cond-true}
+use Rattle.std.proofs.Common.{◌≡◌, ℕ, ◌+◌, ◌-◌, ◌*◌, ◌/◌, ◌^◌, ◌<◌, ◌≤◌, ltb, List, length, sym, ap, ◌∙◌, subst, ⊎_elim, arith, le-ltb, lt-ltb, rules}
+use Rattle.std.proofs.lemmas.Bool.{cases_lt, cond-true, cond-false}
 use Rattle.strings.specs.Strings.{string_at}
 use Rattle.tree.specs.Meaning.{Hash, Code}
 use Rattle.tree.specs.Nodes.{raise, node, one_time, parent_at}
 use Rattle.tree.proofs.Laws.{raise-none, raise-more, node-bottom, one-time-chain}
 use Rattle.growth.specs.Grown.{secret, leaf_string, parameters}
-use Rattle.growth.specs.Shown.{sibling_of, shown_string, shown_row}
+use Rattle.growth.specs.Shown.{sibling_of, path_sibling, shown_string, shown_row}
 use Rattle.growth.proofs.Trees.{node-up}
-use Rattle.growth.proofs.Strings.{row_at, row-long, shown-str}
+use Rattle.growth.proofs.Strings.{shown-str}
+use Rattle.tree.proofs.Joining.{row_at, row-long}
 use Rattle.compare.specs.Sides.{Traced, our_chain, their_chain, our_node, their_node}
 use Rattle.compare.proofs.Lawful.{Lawful}
 use Rattle.compare.proofs.Near.{Near, sibling-other, below-near}
@@ -100,19 +101,24 @@ module _ (hash : Hash) (code : Code) (t : Traced) where
   shown-chain : (k : ℕ) → k < code.count → shown k ≡ our_chain hash code t k (digit k)
   shown-chain k lt = cond-true (ltb k code.count) _ _ (lt-ltb k code.count lt)
 
-  shown-sibling : (e : ℕ) → shown (code.count + e) ≡ our_node hash code t (h - e) (sibling_of (t.leaf / 2 ^ e))
-  shown-sibling e = search rules
+  shown-sibling : (e : ℕ) → e < h → shown (code.count + e) ≡ our_node hash code t (h - e) (sibling_of (t.leaf / 2 ^ e))
+  shown-sibling e lt =
+      let past : code.count + e - code.count ≡ e = omega arith in
+      let back : h - (h - e) ≡ e = omega arith in
+      cond-false (ltb (code.count + e) code.count) _ _ (le-ltb (code.count + e) code.count (omega arith))
+      ∙ ap (λ n. path_sibling hash code t.origin t.leaf (h - n)) past
+      ∙ ap (λ n. our_node hash code t (h - e) (sibling_of (t.leaf / 2 ^ n))) back
 
   -- the record's row is the release's row, or shows the same chains and siblings
   module _ (lawful : Lawful hash code t.origin) (tall : t.origin.height ≤ 8) where
     each : (k : ℕ) → k < code.count + h → length (shown k) ≡ 16
-    each k lt = (shown-str hash code t.origin lawful.strings tall lawful.laws.level_range.1 t.leaf t.stamp k lt).0
+    each k lt = (shown-str hash code t.origin lawful.strings tall lawful.laws.of_code.level_range.1 t.leaf t.stamp k lt).0
 
     pub row_shows : t.row ≡ shown_row hash code t.origin t.leaf t.stamp → ShowsChains × ShowsSiblings
     unfolding shown_row
     row_shows is =
         let at : (k : ℕ) → k < code.count + h → string_at t.row k ≡ shown k = λ k lt. ap (λ r. string_at r k) is ∙ row_at shown (code.count + h) each k lt in
-        (λ k lt. at k (omega arith) ∙ shown-chain k lt, λ e lt. at (code.count + e) (omega arith) ∙ shown-sibling e)
+        (λ k lt. at k (omega arith) ∙ shown-chain k lt, λ e lt. at (code.count + e) (omega arith) ∙ shown-sibling e lt)
 
     pub shows-row : length t.row ≡ 16 * (code.count + h) → ShowsChains → ShowsSiblings → t.row ≡ shown_row hash code t.origin t.leaf t.stamp
     unfolding shown_row
@@ -125,6 +131,6 @@ module _ (hash : Hash) (code : Code) (t : Traced) where
         (λ (past : code.count ≤ k).
         let e = k - code.count in
         let place : code.count + e ≡ k = omega arith in
-        subst (λ j. string_at t.row j ≡ shown j) place (siblings e (omega arith) ∙ sym (shown-sibling e)))
+        subst (λ j. string_at t.row j ≡ shown j) place (siblings e (omega arith) ∙ sym (shown-sibling e (omega arith))))
         (cases_lt k code.count) in
         same_rows t.row (shown_row hash code t.origin t.leaf t.stamp) n long (row-long shown n each) (λ k lt. at k lt ∙ sym (row_at shown n each k lt))

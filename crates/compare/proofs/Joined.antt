@@ -1,6 +1,7 @@
 -- One parent more of a row of strings, and the levels of a leaf on both sides.
 use Rattle.std.proofs.Common.{◌≡◌, ℕ, ◌+◌, ◌-◌, ◌*◌, ◌^◌, ◌<◌, ◌≤◌, List, ap, ◌∙◌, arith, rules}
-use Rattle.tree.specs.Nodes.{join, node}
+use Rattle.tree.specs.Meaning.{Hash}
+use Rattle.tree.specs.Nodes.{Parameters, parent_at, node}
 use Rattle.tree.proofs.Laws.{fold-none, fold_more, double-pow}
 use Rattle.compare.specs.Search.{first_from, child_find, depth_search}
 use Rattle.compare.proofs.Firsts.{first-moved}
@@ -29,14 +30,15 @@ module _ (parent : ℕ → List ℕ → List ℕ → List ℕ) (h l : ℕ) (stri
   level-above c row after le = fold_more parent strings row after (2 ^ c) (2 ^ (c + 1)) (h + c) (l - (c + 1)) (h + (c + 1)) (l - c) (omega arith) (omega arith) (double-pow c (c + 1) (omega arith))
 
 -- what is found first among the parents of two such rows is what is found first at their level
-pub depth-from : (pair : List ℕ → List ℕ → List ℕ) (masks : List ℕ) (h i l c : ℕ) (ours theirs row row' : ℕ → List ℕ) → Level (join pair masks) h l ours (c + 1) row → Level (join pair masks) h l theirs (c + 1) row' → first_from (λ p. child_find pair masks (h + c) (i * 2 ^ c + p) (row (2 * p)) (row (2 * p + 1)) (row' (2 * p)) (row' (2 * p + 1))) 0 (2 ^ c) ≡ depth_search pair masks h i l ours theirs c
-depth-from pair masks h i l c ours theirs row row' our their =
+pub depth-from : (hash : Hash) (p : Parameters) (i l c : ℕ) (ours theirs row row' : ℕ → List ℕ) → Level (parent_at hash p) p.height l ours (c + 1) row → Level (parent_at hash p) p.height l theirs (c + 1) row' → first_from (λ q. child_find hash p (p.height + c) (i * 2 ^ c + q) (row (2 * q)) (row (2 * q + 1)) (row' (2 * q)) (row' (2 * q + 1))) 0 (2 ^ c) ≡ depth_search hash p i l ours theirs c
+depth-from hash p i l c ours theirs row row' our their =
+    let h = p.height in
     let level : h + (c + 1) ≡ h + c + 1 = omega arith in
     let twice = double-pow c (c + 1) (omega arith) in
-    let left = λ (k : ℕ) (lt : k < 2 ^ (c + 1)). our k lt ∙ ap (λ a. node (join pair masks) ours a (l - (c + 1)) k) level in
-    let right = λ (k : ℕ) (lt : k < 2 ^ (c + 1)). their k lt ∙ ap (λ a. node (join pair masks) theirs a (l - (c + 1)) k) level in
+    let left = λ (k : ℕ) (lt : k < 2 ^ (c + 1)). our k lt ∙ ap (λ a. node (parent_at hash p) ours a (l - (c + 1)) k) level in
+    let right = λ (k : ℕ) (lt : k < 2 ^ (c + 1)). their k lt ∙ ap (λ a. node (parent_at hash p) theirs a (l - (c + 1)) k) level in
     first-moved _ _ 0 0 (2 ^ c)
-    (λ p lt j.
-    child_find pair masks (h + c) (i * 2 ^ c + (0 + p))
-    (left (2 * (0 + p)) (omega arith) j) (left (2 * (0 + p) + 1) (omega arith) j)
-    (right (2 * (0 + p)) (omega arith) j) (right (2 * (0 + p) + 1) (omega arith) j))
+    (λ q lt j.
+    child_find hash p (h + c) (i * 2 ^ c + (0 + q))
+    (left (2 * (0 + q)) (omega arith) j) (left (2 * (0 + q) + 1) (omega arith) j)
+    (right (2 * (0 + q)) (omega arith) j) (right (2 * (0 + q) + 1) (omega arith) j))

@@ -42,7 +42,7 @@ module _ (hash : Hash) (code : Code) (t : Traced) where
 
   module _ (ours theirs : ℕ → List ℕ) (few : l ≤ 8) (our-row : (k : ℕ) → k < 256 → ours k ≡ leaf_string hash code t.origin t.leaf k) (their-row : (k : ℕ) → k < 256 → theirs k ≡ their_one_time hash code t k) where
     abbrev depth : ℕ → Option Find
-    depth = depth_search (hash.pair t.origin.hash_key) t.origin.masks h t.leaf l ours theirs
+    depth = depth_search hash (parameters t.origin) t.leaf l ours theirs
 
     -- the leaf's own node
     pub leaf-nodes : (node parent ours h l 0 ≡ our_node hash code t h t.leaf) × (node parent theirs h l 0 ≡ their_node hash code t h t.leaf)
@@ -70,12 +70,12 @@ module _ (hash : Hash) (code : Code) (t : Traced) where
         let right : t.leaf * 2 ^ (c + 1) + (2 * p + 1) ≡ 2 * b + 1 = omega arith in
         ap
         (λ n.
-        child_find (hash.pair t.origin.hash_key) t.origin.masks (h + c) (t.leaf * 2 ^ c + n)
+        child_find hash (parameters t.origin) (h + c) (t.leaf * 2 ^ c + n)
         (node parent ours (h + c + 1) (l - (c + 1)) (2 * n)) (node parent ours (h + c + 1) (l - (c + 1)) (2 * n + 1))
         (node parent theirs (h + c + 1) (l - (c + 1)) (2 * n)) (node parent theirs (h + c + 1) (l - (c + 1)) (2 * n + 1)))
         zero
         ∙ (λ i.
-        child_find (hash.pair t.origin.hash_key) t.origin.masks (h + c) b
+        child_find hash (parameters t.origin) (h + c) b
         (our (2 * p) (2 * b) (omega arith) left i) (our (2 * p + 1) (2 * b + 1) (omega arith) right i)
         (their (2 * p) (2 * b) (omega arith) left i) (their (2 * p + 1) (2 * b + 1) (omega arith) right i)))
         ∙ (λ i. first_from (node_find_at hash code t (h + c)) (sym place i) (sym wide i))

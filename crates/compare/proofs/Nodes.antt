@@ -153,7 +153,7 @@ module _ (hash : Hash) (code : Code) (t : Traced) where
       ∙ their-climb a (d + 1) (omega arith)
 
   -- the root that the record leads to
-  pub their-root : t.leaf < 2 ^ h → rebuilt hash code t.origin.hash_key t.origin.masks h t.leaf t.stamp t.row ≡ their_node hash code t 0 0
+  pub their-root : t.leaf < 2 ^ h → rebuilt hash code (parameters t.origin) t.leaf t.stamp t.row ≡ their_node hash code t 0 0
   their-root lt =
       let top : h - 0 ≡ h = omega arith in
       let first : t.leaf / 2 ^ 0 ≡ t.leaf = omega arith in

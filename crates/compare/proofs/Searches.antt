@@ -234,10 +234,15 @@ module _ (hash : Hash) (code : Code) (t : Traced) where
   in-hidden = row-first (λ a. Hidden code t) (λ a. hidden_find_of) 0 0 code.count (hidden_find_at hash code t) (λ k u. let lt = u.chain in (omega arith, omega arith)) (λ k lo hi. hidden_found k (omega arith))
 
   chosen-found : (o p q : Option Find) → NodesOf o → ChainsOf p → HiddenOf q → Found hash code t (chosen o p q)
-  chosen-found (Some x) p q n c u = subst (λ y. Found hash code t (Node y)) (sym n.is) (node_break n.row n.place n.breaks n.least)
-  chosen-found None (Some x) q n c u = subst (λ y. Found hash code t (Chain y)) (sym c.is) (chain_break n c.row c.place c.breaks c.least)
-  chosen-found None None (Some x) n c u = subst (λ y. Found hash code t (Unrevealed y)) (sym u.is) (unrevealed n c u.place u.breaks u.least)
-  chosen-found None None None n c u = ours n c u
+  chosen-found (Some x) p q n c u =
+      subst (λ y. Found hash code t (Node y)) (sym n.is) (node_break n.row n.place (record { breaks = n.breaks; least = n.least }))
+  chosen-found None (Some x) q n c u =
+      subst (λ y. Found hash code t (Chain y)) (sym c.is)
+      (chain_break c.row c.place (record { no_node = n; breaks = c.breaks; least = c.least }))
+  chosen-found None None (Some x) n c u =
+      subst (λ y. Found hash code t (Unrevealed y)) (sym u.is)
+      (unrevealed u.place (record { no_node = n; no_chain = c; hides = u.breaks; least = u.least }))
+  chosen-found None None None n c u = ours (record { no_node = n; no_chain = c; no_hidden = u })
 
   -- what the search finds is what trace is to find
   pub found_first : Found hash code t (found hash code t)
@@ -246,22 +251,25 @@ module _ (hash : Hash) (code : Code) (t : Traced) where
 
   -- two verdicts that are both to be found are one
   found-one : {v w : Verdict} → Found hash code t v → Found hash code t w → v ≡ w
-  found-one (node_break a b n least) (node_break a' b' n' least') = let e = same-pair a b a' b' (least a' b' n') (least' a b n) in λ i. Node (node_find (e.0 i) (e.1 i))
-  found-one (node_break a b n _) (chain_break none _ _ _ _) = absurd (none a b n)
-  found-one (node_break a b n _) (unrevealed none _ _ _ _) = absurd (none a b n)
-  found-one (node_break a b n _) (ours none _ _) = absurd (none a b n)
-  found-one (chain_break none _ _ _ _) (node_break a b n _) = absurd (none a b n)
-  found-one (chain_break _ k e c least) (chain_break _ k' e' c' least') = let p = same-pair k e' k' e (least k' e' c') (least' k e c) in λ i. Chain (chain_find (p.0 i) (sym p.1 i))
-  found-one (chain_break _ k e c _) (unrevealed _ none _ _ _) = absurd (none k e c)
-  found-one (chain_break _ k e c _) (ours _ none _) = absurd (none k e c)
-  found-one (unrevealed none _ _ _ _) (node_break a b n _) = absurd (none a b n)
-  found-one (unrevealed _ none _ _ _) (chain_break _ k e c _) = absurd (none k e c)
-  found-one (unrevealed _ _ k u least) (unrevealed _ _ k' u' least') = let p : k ≡ k' = omega (arith, least k' u', least' k u) in λ i. Unrevealed (hidden_find_of (p i))
-  found-one (unrevealed _ _ k u _) (ours _ _ none) = absurd (none k u)
-  found-one (ours none _ _) (node_break a b n _) = absurd (none a b n)
-  found-one (ours _ none _) (chain_break _ k e c _) = absurd (none k e c)
-  found-one (ours _ _ none) (unrevealed _ _ k u _) = absurd (none k u)
-  found-one (ours _ _ _) (ours _ _ _) = refl
+  found-one (node_break a b f) (node_break a' b' f') =
+      let e = same-pair a b a' b' (f.least a' b' f'.breaks) (f'.least a b f.breaks) in λ i. Node (node_find (e.0 i) (e.1 i))
+  found-one (node_break a b f) (chain_break k e f') = absurd (f'.no_node a b f.breaks)
+  found-one (node_break a b f) (unrevealed k f') = absurd (f'.no_node a b f.breaks)
+  found-one (node_break a b f) (ours f') = absurd (f'.no_node a b f.breaks)
+  found-one (chain_break k e f) (node_break a b f') = absurd (f.no_node a b f'.breaks)
+  found-one (chain_break k e f) (chain_break k' e' f') =
+      let p = same-pair k e' k' e (f.least k' e' f'.breaks) (f'.least k e f.breaks) in λ i. Chain (chain_find (p.0 i) (sym p.1 i))
+  found-one (chain_break k e f) (unrevealed k' f') = absurd (f'.no_chain k e f.breaks)
+  found-one (chain_break k e f) (ours f') = absurd (f'.no_chain k e f.breaks)
+  found-one (unrevealed k f) (node_break a b f') = absurd (f.no_node a b f'.breaks)
+  found-one (unrevealed k f) (chain_break k' e f') = absurd (f.no_chain k' e f'.breaks)
+  found-one (unrevealed k f) (unrevealed k' f') =
+      let p : k ≡ k' = omega (arith, f.least k' f'.hides, f'.least k f.hides) in λ i. Unrevealed (hidden_find_of (p i))
+  found-one (unrevealed k f) (ours f') = absurd (f'.no_hidden k f.hides)
+  found-one (ours f) (node_break a b f') = absurd (f.no_node a b f'.breaks)
+  found-one (ours f) (chain_break k e f') = absurd (f.no_chain k e f'.breaks)
+  found-one (ours f) (unrevealed k f') = absurd (f.no_hidden k f'.hides)
+  found-one (ours f) (ours f') = refl
 
   -- so it is the search that finds it
   pub found-only : (v : Verdict) → Found hash code t v → v ≡ found hash code t

@@ -20,7 +20,7 @@ module _ (hash : Hash) (code : Code) (t : Traced) (lawful : Lawful hash code t.o
   -- the inputs of a pair, where the two nodes below it are strings
   inputs-str : (nodes : ℕ → ℕ → List ℕ) (a b : ℕ) → a < h + l → Str (nodes (a + 1) (2 * b)) × Str (nodes (a + 1) (2 * b + 1)) → Str (left_input hash code t nodes a b) × Str (right_input hash code t nodes a b)
   inputs-str nodes a b lt strs =
-      let few = lawful.laws.level_range.1 in
+      let few = lawful.laws.of_code.level_range.1 in
       (input-str hash t.origin lawful.strings _ (2 * a) (omega arith) strs.0, input-str hash t.origin lawful.strings _ (2 * a + 1) (omega arith) strs.1)
 
   -- the signer's side
@@ -28,7 +28,7 @@ module _ (hash : Hash) (code : Code) (t : Traced) (lawful : Lawful hash code t.o
   our-chain-str k e = chain-str hash code t.origin lawful.strings t.leaf k e
 
   our-node-str : (a b : ℕ) → a ≤ h + l → Str (our_node hash code t a b)
-  our-node-str a b le = let few = lawful.laws.level_range.1 in node-str hash code t.origin lawful.strings (h + l - a) a b (omega arith)
+  our-node-str a b le = let few = lawful.laws.of_code.level_range.1 in node-str hash code t.origin lawful.strings (h + l - a) a b (omega arith)
 
   pub our-inputs-str : (a b : ℕ) → a < h + l → Str (left_input hash code t (our_node hash code t) a b) × Str (right_input hash code t (our_node hash code t) a b)
   our-inputs-str a b lt = inputs-str (our_node hash code t) a b lt (our-node-str (a + 1) (2 * b) (omega arith), our-node-str (a + 1) (2 * b + 1) (omega arith))
@@ -43,7 +43,7 @@ module _ (hash : Hash) (code : Code) (t : Traced) (lawful : Lawful hash code t.o
 
     their-children-str : (a b : ℕ) → a < h + l → Near h t.leaf a b → Str (their_node hash code t (a + 1) (2 * b)) × Str (their_node hash code t (a + 1) (2 * b + 1))
     their-children-str =
-        let few = lawful.laws.level_range.1 in
+        let few = lawful.laws.of_code.level_range.1 in
         below-near h t.leaf l (λ a b. Str (their_node hash code t a b))
         (λ e lt. subst Str (sym (their-sibling hash code t e lt)) (row-str (code.count + e) (omega arith)))
         (λ k lt. subst Str (sym (their-bottom hash code t k lt)) (one-time-str hash t.origin lawful.strings code.count code.top (code.digit t.stamp) (string_at t.row) (λ j below. row-str j (omega arith)) k))

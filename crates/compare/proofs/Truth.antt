@@ -6,10 +6,10 @@ use Rattle.strings.proofs.Laws.{xor-injective}
 use Rattle.tree.specs.Meaning.{Hash, Code}
 use Rattle.tree.specs.Rebuilt.{rebuilt}
 use Rattle.tree.proofs.Laws.{one-time-past}
-use Rattle.growth.specs.Grown.{secret, leaf_string, node_at}
+use Rattle.growth.specs.Grown.{parameters, secret, leaf_string, node_at}
 use Rattle.growth.specs.Shown.{sibling_of, shown_row}
 use Rattle.compare.specs.Sides.{Traced, our_chain, their_chain, our_node, their_node, left_input, right_input, revealed_height}
-use Rattle.compare.specs.Found.{NodeBreak, ChainBreak, Hidden, Found, ours}
+use Rattle.compare.specs.Found.{NoNode, NoChain, NoneFound, Found, ours}
 use Rattle.compare.specs.declared.verdict.Verdict.TheVariants.{Ours}
 use Rattle.compare.proofs.Lawful.{Lawful}
 use Rattle.compare.proofs.Near.{Near, child, sibling-half, root-only, near-way, near_up, near-bottom}
@@ -34,21 +34,11 @@ module _ (hash : Hash) (code : Code) (t : Traced) where
   abbrev Same : ℕ → ℕ → Type 0
   Same a b = SameNode hash code t a b
 
-  -- what is not found
-  abbrev NoNode : Type 0
-  NoNode = (a b : ℕ) → NodeBreak hash code t a b → ⊥
-
-  abbrev NoChain : Type 0
-  NoChain = (k e : ℕ) → ChainBreak hash code t k e → ⊥
-
-  abbrev NoHidden : Type 0
-  NoHidden = (k : ℕ) → Hidden code t k → ⊥
-
-  none_found : Found hash code t Ours → NoNode × NoChain × NoHidden
-  none_found (ours nodes chains hidden) = (nodes, chains, hidden)
+  none_found : Found hash code t Ours → NoneFound hash code t
+  none_found (ours none) = none
 
   -- where no node breaks, equal nodes have equal children; so both sides are equal from the root down
-  child-same : NoNode → (a c : ℕ) → a < h + l → At a (c / 2) → Same a (c / 2) → Same (a + 1) c
+  child-same : NoNode hash code t → (a c : ℕ) → a < h + l → At a (c / 2) → Same a (c / 2) → Same (a + 1) c
   child-same none a c inner near equal =
       let b = c / 2 in
       let both = both-unless
@@ -57,7 +47,7 @@ module _ (hash : Hash) (code : Code) (t : Traced) where
       (λ differ. none a b (record { inner = inner; near = near; equal = equal; differ = differ })) in
       child (Same (a + 1)) c (xor-injective _ _ _ both.0) (xor-injective _ _ _ both.1)
 
-  module _ (none : NoNode) (placed : t.leaf < 2 ^ h) (root : Same 0 0) where
+  module _ (none : NoNode hash code t) (placed : t.leaf < 2 ^ h) (root : Same 0 0) where
     near_same : (a b : ℕ) → a ≤ h + l → At a b → Same a b
     near_same zero b le near = subst (Same 0) (sym (root-only h t.leaf placed b near)) root
     near_same (suc a) c le near =
@@ -83,7 +73,7 @@ module _ (hash : Hash) (code : Code) (t : Traced) where
         ∙ their-top hash code t k chain
 
   -- where no chain breaks, equal tops are over equal strings
-  chain_same : NoChain → (k : ℕ) → k < code.count → SameChain hash code t k code.top → (j e : ℕ) → e + j ≡ code.top → digit k ≤ e → SameChain hash code t k e
+  chain_same : NoChain hash code t → (k : ℕ) → k < code.count → SameChain hash code t k code.top → (j e : ℕ) → e + j ≡ code.top → digit k ≤ e → SameChain hash code t k e
   chain_same none k chain top zero e at shown = subst (SameChain hash code t k) (let is : code.top ≡ e = omega arith in is) top
   chain_same none k chain top (suc j) e at shown =
       let over = chain_same none k chain top j (e + 1) (omega arith) (omega arith) in
@@ -96,11 +86,11 @@ module _ (hash : Hash) (code : Code) (t : Traced) where
     stamp-is m strm revealed =
         same-unless t.stamp m
         (λ isnt.
-        let larger = lawful.laws.apart t.stamp m str strm isnt in
+        let larger = lawful.laws.of_code.apart t.stamp m str strm isnt in
         let k = larger.0 in
         ⊎_elim
         (λ (lt : k < code.count). none k lt (omega (arith, revealed k, larger.1)))
-        (λ (le : code.count ≤ k). omega (arith, lawful.laws.past t.stamp k str le, lawful.laws.past m k strm le, larger.1))
+        (λ (le : code.count ≤ k). omega (arith, lawful.laws.of_code.past t.stamp k str le, lawful.laws.of_code.past m k strm le, larger.1))
         (cases_lt k code.count))
 
   -- so the stamp is in that row
@@ -108,7 +98,7 @@ module _ (hash : Hash) (code : Code) (t : Traced) where
   entered-is lawful str (Some m) strs none = ap Some (sym (stamp-is lawful str (Some m) none m (strs m refl) (λ k. omega arith)))
   entered-is lawful str None strs none =
       let other = another t.stamp in
-      absurd (other.2 (stamp-is lawful str None none other.0 other.1 (λ k. lawful.laws.within other.0 k other.1)))
+      absurd (other.2 (stamp-is lawful str None none other.0 other.1 (λ k. lawful.laws.of_code.within other.0 k other.1)))
 
   -- where the row shows the signer's strings, both sides are equal: along the chains, and from the bottom up
   chain-shown : ShowsChains hash code t → (k j e : ℕ) → k < code.count → digit k + j ≡ e → SameChain hash code t k e
@@ -132,37 +122,42 @@ module _ (hash : Hash) (code : Code) (t : Traced) where
         ∙ sym (one-time-past step code.top (code.digit t.stamp) (string_at t.row) code.count k past))
         (cases_lt k code.count)
 
-    no_node : NoNode
+    no_node : NoNode hash code t
     no_node a b break =
         let under =
         same-below hash code t l (omega arith) (λ e lt. sym (siblings e lt)) (λ k lt. our-bottom hash code t k lt ∙ string-shown k ∙ sym (their-bottom hash code t k lt)) a b break.inner break.near in
         break.differ (ap (λ s. xor s (string_at t.origin.masks (2 * a))) under.0, ap (λ s. xor s (string_at t.origin.masks (2 * a + 1))) under.1)
 
-    no-chain : NoChain
+    no-chain : NoChain hash code t
     no-chain k e break = let shown = break.shown in break.differ (chain-shown chains k (e - digit k) e break.chain (omega arith))
 
   module _ (lawful : Lawful hash code t.origin) (tall : t.origin.height ≤ 8) (str : Str t.stamp) where
     -- where no node and no chain breaks, a row that leads to the root is the signer's own
-    pub row-true : t.leaf < 2 ^ t.origin.height → length t.row ≡ 16 * (code.count + t.origin.height) → ((a b : ℕ) → NodeBreak hash code t a b → ⊥) → ((k e : ℕ) → ChainBreak hash code t k e → ⊥) → rebuilt hash code t.origin.hash_key t.origin.masks t.origin.height t.leaf t.stamp t.row ≡ node_at hash code t.origin 0 0 → t.row ≡ shown_row hash code t.origin t.leaf t.stamp
+    pub row-true : t.leaf < 2 ^ t.origin.height → length t.row ≡ 16 * (code.count + t.origin.height) → NoNode hash code t → NoChain hash code t → rebuilt hash code (parameters t.origin) t.leaf t.stamp t.row ≡ node_at hash code t.origin 0 0 → t.row ≡ shown_row hash code t.origin t.leaf t.stamp
     row-true placed long nodes breaks leads =
         let root = sym leads ∙ their-root hash code t placed in
         let chains : ShowsChains hash code t =
         λ k chain.
-        let fits = lawful.laws.within t.stamp k str in
-        let place : k < 2 ^ l = omega (arith, lawful.laws.count_range.1) in
+        let fits = lawful.laws.of_code.within t.stamp k str in
+        let place : k < 2 ^ l = omega (arith, lawful.laws.of_code.count_range.1) in
         let top = tops-same nodes placed root k chain place in
         sym (their-first hash code t k) ∙ sym (chain_same breaks k chain top (code.top - digit k) (digit k) (omega arith) (omega arith)) in
         shows-row hash code t lawful tall long chains (siblings-same nodes placed root)
 
     -- where nothing at all is found of it, the signer issued it: the stamp is in the ledger too
-    pub ours-true : t.leaf < 2 ^ t.origin.height → length t.row ≡ 16 * (code.count + t.origin.height) → ((m : List ℕ) → t.entered ≡ Some m → Str m) → Found hash code t Ours → rebuilt hash code t.origin.hash_key t.origin.masks t.origin.height t.leaf t.stamp t.row ≡ node_at hash code t.origin 0 0 → (t.entered ≡ Some t.stamp) × (t.row ≡ shown_row hash code t.origin t.leaf t.stamp)
+    pub ours-true : t.leaf < 2 ^ t.origin.height → length t.row ≡ 16 * (code.count + t.origin.height) → ((m : List ℕ) → t.entered ≡ Some m → Str m) → Found hash code t Ours → rebuilt hash code (parameters t.origin) t.leaf t.stamp t.row ≡ node_at hash code t.origin 0 0 → (t.entered ≡ Some t.stamp) × (t.row ≡ shown_row hash code t.origin t.leaf t.stamp)
     ours-true placed long strs found leads =
         let none = none_found found in
-        (entered-is lawful str t.entered strs (λ k chain below. none.2 k (record { chain = chain; below = below })), row-true placed long none.0 none.1 leads)
+        (entered-is lawful str t.entered strs (λ k chain below. none.no_hidden k (record { chain = chain; below = below })), row-true placed long none.no_node none.no_chain leads)
 
     -- where the signer issued it, nothing is found
     pub true-ours : t.entered ≡ Some t.stamp → t.row ≡ shown_row hash code t.origin t.leaf t.stamp → Found hash code t Ours
     true-ours entered is =
         let shows = row_shows hash code t lawful tall is in
-        let low : (k : ℕ) → digit k ≤ code.top = λ k. lawful.laws.within t.stamp k str in
-        ours (no_node low shows.0 shows.1) (no-chain low shows.0 shows.1) (λ k hidden. let same = ap (λ o. revealed_height code o k) entered in omega (arith, same, hidden.below))
+        let low : (k : ℕ) → digit k ≤ code.top = λ k. lawful.laws.of_code.within t.stamp k str in
+        ours
+        (record {
+          no_node = no_node low shows.0 shows.1;
+          no_chain = no-chain low shows.0 shows.1;
+          no_hidden = λ k hidden. let same = ap (λ o. revealed_height code o k) entered in omega (arith, same, hidden.below);
+        })

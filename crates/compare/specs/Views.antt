@@ -4,4 +4,11 @@ use Rattle.codes.specs.declared.Code.{Ghosts}
 use Rattle.compare.specs.declared.subject.Subject.{Subject}
 
 abbrev pub traced_of : {H C : Type 0} {code : Ghosts C} → Subject H C code → Traced
-traced_of s = record { origin = s.tree.origin.now; entered = s.entered; stamp = s.stamp.now; leaf = s.leaf; row = s.row.now }
+traced_of s =
+    record {
+      origin = s.tree.origin.now;
+      entered = s.entered;
+      stamp = s.stamp.now;
+      leaf = s.leaf;
+      row = s.row.now;
+    }

@@ -13,7 +13,8 @@ use crate::reports::four_strings;
 use crate::{Compared, Find, Sides, Subject};
 use codes::Code;
 use hashes::{ChainHash, TreeHash};
-use strings::{ZERO, put_string, same, string_at};
+use strings::{ZERO, put_string, same};
+use tree::rows::{WORK, chain_in};
 
 // One step up a chain on both sides, from a height.
 fn step_both<H: ChainHash>(key: &[u8; 16], chain: u16, height: u8, at: &Sides) -> Compared
@@ -124,7 +125,7 @@ impl<H: TreeHash, C: Code> Subject<'_, H, C> {
         let digit = digit_of::<C>(self.stamp, place);
         let origin = self.tree.origin;
         let ours = origin.chain_string::<H>(self.leaf, place, digit);
-        let theirs = string_at(self.row, place);
+        let theirs = chain_in(self.row, place);
         let hidden = hidden::<C>(&self.entered, chain, digit, &ours);
         let start = Sides { ours, theirs };
         let top = raise_both::<H>(&origin.hash_key, chain, digit, C::TOP, &start);
@@ -136,7 +137,7 @@ impl<H: TreeHash, C: Code> Subject<'_, H, C> {
     }
 
     /// Compares the chains of the leaf, and fills two rows with its one-time strings: the signer's and the record's.
-    pub(crate) fn compare_chains(&self, ours: &mut [u8; 4096], theirs: &mut [u8; 4096]) -> Chains
+    pub(crate) fn compare_chains(&self, ours: &mut [u8; WORK], theirs: &mut [u8; WORK]) -> Chains
         ensures ours { (k : ℕ) → k < 256 →
             string_at ours.new k ≡ leaf_string (hash_of H.TreeHash) (code_of C.Code)
             (traced_of self.now).origin self.now.leaf k }
@@ -148,8 +149,8 @@ impl<H: TreeHash, C: Code> Subject<'_, H, C> {
         ensures hidden { result.hidden ≡ hidden_search (hash_of H.TreeHash)
             (code_of C.Code) (traced_of self.now) }
     {
-        *ours = [0; 4096];
-        *theirs = [0; 4096];
+        *ours = [0; WORK];
+        *theirs = [0; WORK];
         let mut broken = None;
         let mut hidden = None;
         for k in 0..C::COUNT {

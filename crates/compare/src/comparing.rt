@@ -4,12 +4,14 @@ ghost use Rattle.std.specs.Prelude.{◌≡◌};
 ghost use Rattle.compare.specs.Found.{Found};
 ghost use Rattle.compare.specs.Search.{chosen, found};
 ghost use Rattle.compare.specs.Views.{traced_of};
+ghost use Rattle.growth.specs.Grown.{parameters};
 ghost use Rattle.tree.specs.Meaning.{hash_of, code_of};
 ghost use Rattle.tree.specs.Rebuilt.{rebuilt};
 
 use crate::{Find, Subject, Verdict};
 use codes::Code;
 use hashes::TreeHash;
+use tree::rows::WORK;
 
 /// The root that a record leads to, and the verdict on it.
 #[derive(Clone, Copy)]
@@ -32,16 +34,16 @@ fn choose(node: Option<Find>, chain: Option<Find>, hidden: Option<Find>) -> Verd
 
 impl<H: TreeHash, C: Code> Subject<'_, H, C> {
     /// Compares the record with what the signer's seed and ledger give for its leaf. The work buffer is used up.
-    pub fn compare(&self, work: &mut [u8; 4096]) -> Comparison
+    pub fn compare(&self, work: &mut [u8; WORK]) -> Comparison
         ensures root { result.root ≡ rebuilt (hash_of H.TreeHash) (code_of C.Code)
-            self.now.tree.origin.now.hash_key self.now.tree.origin.now.masks
-            self.now.tree.origin.now.height self.now.leaf self.now.stamp.now self.now.row.now }
+            (parameters (traced_of self.now).origin) self.now.leaf self.now.stamp.now
+            self.now.row.now }
         ensures verdict { result.verdict ≡ found (hash_of H.TreeHash)
             (code_of C.Code) (traced_of self.now) }
         ensures first { Found (hash_of H.TreeHash) (code_of C.Code)
             (traced_of self.now) result.verdict }
     {
-        let mut theirs = [0; 4096];
+        let mut theirs = [0; WORK];
         let chains = self.compare_chains(work, &mut theirs);
         let leaf_node = self.fold_both(work, &mut theirs);
         let root = self.climb_to_root(&leaf_node.sides, work);

@@ -3,38 +3,43 @@
 ghost use Rattle.std.specs.Prelude.{◌≡◌, ℕ, ◌+◌, ◌*◌, ◌^◌, ◌<◌, ◌≤◌, length};
 ghost use Rattle.compare.specs.Search.{first_from, child_find, depth_search};
 ghost use Rattle.strings.specs.Strings.{string_at};
-ghost use Rattle.tree.specs.Nodes.{join, node};
+ghost use Rattle.compare.specs.Views.{traced_of};
+ghost use Rattle.growth.specs.Grown.{parameters};
+ghost use Rattle.tree.specs.Meaning.{hash_of};
+ghost use Rattle.tree.specs.Nodes.{parent_at, node};
+ghost use Rattle.tree.specs.Views.{parameters_of};
 
 use crate::reports::four_strings;
 use crate::{Compared, Find, Sides, Subject};
 use codes::Code;
 use hashes::TreeHash;
 use strings::{put_string, same, string_at};
-use tree::nodes::{Children, Joiner};
+use tree::Parameters;
+use tree::nodes::Children;
+use tree::rows::WORK;
 
 /// The parent at a level of two children on both sides, and whether it hides that they differ.
 pub(crate) fn join_both<H: TreeHash>(
-    joiner: &Joiner<'_, H>,
+    parameters: &Parameters<'_>,
     level: usize,
     position: u16,
     ours: &Children,
     theirs: &Children,
 ) -> Compared
-    requires masked { 32 * level + 32 ≤ length joiner.now.masks.now }
+    requires masked { 32 * level + 32 ≤ length parameters.now.masks.now }
     requires few { level < 16 }
-    ensures ours { result.sides.ours ≡ join (H.TreeHash.pairs joiner.now.key.now)
-        joiner.now.masks.now level ours.now.left ours.now.right }
-    ensures theirs { result.sides.theirs ≡ join (H.TreeHash.pairs joiner.now.key.now)
-        joiner.now.masks.now level theirs.now.left theirs.now.right }
-    ensures find { result.find ≡ child_find (H.TreeHash.pairs joiner.now.key.now)
-        joiner.now.masks.now level position ours.now.left ours.now.right theirs.now.left
-        theirs.now.right }
+    ensures ours { result.sides.ours ≡ parent_at (hash_of H.TreeHash) (parameters_of parameters.now)
+        level ours.now.left ours.now.right }
+    ensures theirs { result.sides.theirs ≡ parent_at (hash_of H.TreeHash)
+        (parameters_of parameters.now) level theirs.now.left theirs.now.right }
+    ensures find { result.find ≡ child_find (hash_of H.TreeHash) (parameters_of parameters.now) level
+        position ours.now.left ours.now.right theirs.now.left theirs.now.right }
 {
-    let ours = joiner.masked(level, ours);
-    let theirs = joiner.masked(level, theirs);
+    let ours = parameters.masked(level, ours);
+    let theirs = parameters.masked(level, theirs);
     let sides = Sides {
-        ours: H::pair(joiner.key, &ours.left, &ours.right),
-        theirs: H::pair(joiner.key, &theirs.left, &theirs.right),
+        ours: H::pair(parameters.hash_key, &ours.left, &ours.right),
+        theirs: H::pair(parameters.hash_key, &theirs.left, &theirs.right),
     };
     let alike = same(&ours.left, &theirs.left) && same(&ours.right, &theirs.right);
     let broken = same(&sides.ours, &sides.theirs) && !alike;
@@ -60,26 +65,26 @@ fn children_at(row: &[u8], p: usize) -> Children
 // Writes the `n` parents at `level` of the first 2n strings of both rows over their first n strings, and finds the first of
 // them that hides that its children differ; the first parent stands at position `first`.
 fn join_level<H: TreeHash>(
-    joiner: &Joiner<'_, H>,
+    parameters: &Parameters<'_>,
     level: usize,
     first: u16,
     ours: &mut [u8],
     theirs: &mut [u8],
     n: usize,
 ) -> Option<Find>
-    requires masked { 32 * level + 32 ≤ length joiner.now.masks.now }
+    requires masked { 32 * level + 32 ≤ length parameters.now.masks.now }
     requires few { level < 16 }
     requires ours { 32 * n ≤ length ours.old }
     requires theirs { 32 * n ≤ length theirs.old }
     requires places { first + n ≤ 2 ^ 16 }
     ensures ours { (k : ℕ) → k < n → string_at ours.new k
-        ≡ join (H.TreeHash.pairs joiner.now.key.now) joiner.now.masks.now level
+        ≡ parent_at (hash_of H.TreeHash) (parameters_of parameters.now) level
         (string_at ours.old (2 * k)) (string_at ours.old (2 * k + 1)) }
     ensures theirs { (k : ℕ) → k < n → string_at theirs.new k
-        ≡ join (H.TreeHash.pairs joiner.now.key.now) joiner.now.masks.now level
+        ≡ parent_at (hash_of H.TreeHash) (parameters_of parameters.now) level
         (string_at theirs.old (2 * k)) (string_at theirs.old (2 * k + 1)) }
-    ensures find { result ≡ first_from (λ p. child_find (H.TreeHash.pairs joiner.now.key.now)
-        joiner.now.masks.now level (first + p) (string_at ours.old (2 * p))
+    ensures find { result ≡ first_from (λ p. child_find (hash_of H.TreeHash)
+        (parameters_of parameters.now) level (first + p) (string_at ours.old (2 * p))
         (string_at ours.old (2 * p + 1)) (string_at theirs.old (2 * p))
         (string_at theirs.old (2 * p + 1))) 0 n }
 {
@@ -87,8 +92,8 @@ fn join_level<H: TreeHash>(
     for p in 0..n {
         let our_children = children_at(ours, p);
         let their_children = children_at(theirs, p);
-        let above = join_both(
-            joiner,
+        let above = join_both::<H>(
+            parameters,
             level,
             first + p as u16,
             &our_children,
@@ -104,24 +109,30 @@ fn join_level<H: TreeHash>(
 impl<H: TreeHash, C: Code> Subject<'_, H, C> {
     /// The node of the leaf on both sides, over two rows with its one-time strings; and the first node below it, or itself,
     /// that hides that its children differ. The rows are used up.
-    pub(crate) fn fold_both(&self, ours: &mut [u8; 4096], theirs: &mut [u8; 4096]) -> Compared
+    pub(crate) fn fold_both(&self, ours: &mut [u8; WORK], theirs: &mut [u8; WORK]) -> Compared
         ensures ours { result.sides.ours ≡ node
-            (join (H.TreeHash.pairs self.now.tree.origin.now.hash_key) self.now.tree.origin.now.masks)
-            (string_at ours.old) self.now.tree.origin.now.height C.Code.LEVELS 0 }
+            (parent_at (hash_of H.TreeHash) (parameters (traced_of self.now).origin))
+            (string_at ours.old) (traced_of self.now).origin.height C.Code.LEVELS 0 }
         ensures theirs { result.sides.theirs ≡ node
-            (join (H.TreeHash.pairs self.now.tree.origin.now.hash_key) self.now.tree.origin.now.masks)
-            (string_at theirs.old) self.now.tree.origin.now.height C.Code.LEVELS 0 }
-        ensures find { result.find ≡ first_from (depth_search
-            (H.TreeHash.pairs self.now.tree.origin.now.hash_key) self.now.tree.origin.now.masks
-            self.now.tree.origin.now.height self.now.leaf C.Code.LEVELS (string_at ours.old)
-            (string_at theirs.old)) 0 C.Code.LEVELS }
+            (parent_at (hash_of H.TreeHash) (parameters (traced_of self.now).origin))
+            (string_at theirs.old) (traced_of self.now).origin.height C.Code.LEVELS 0 }
+        ensures find { result.find ≡ first_from (depth_search (hash_of H.TreeHash)
+            (parameters (traced_of self.now).origin) self.now.leaf C.Code.LEVELS
+            (string_at ours.old) (string_at theirs.old)) 0 C.Code.LEVELS }
     {
-        let joiner = self.tree.origin.joiner::<H>();
+        let parameters = self.tree.origin.parameters();
         let height = self.tree.origin.height as usize;
         let mut found = None;
-        for left in (0..C::LEVELS as usize).rev() {
-            let first = self.leaf << left;
-            let find = join_level(&joiner, height + left, first, ours, theirs, 1 << left);
+        for depth in (0..C::LEVELS as usize).rev() {
+            let first = self.leaf << depth;
+            let find = join_level::<H>(
+                &parameters,
+                height + depth,
+                first,
+                ours,
+                theirs,
+                1 << depth,
+            );
             found = find.or(found);
         }
         let sides = Sides {

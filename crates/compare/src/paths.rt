@@ -11,13 +11,13 @@ use crate::{Compared, Sides, Subject};
 use codes::Code;
 use growth::sibling;
 use hashes::TreeHash;
-use strings::string_at;
 use tree::nodes::Children;
+use tree::rows::{WORK, sibling_in};
 
 impl<H: TreeHash, C: Code> Subject<'_, H, C> {
     // One level up on both sides: the parent at `level` of the node at `position` on the way up from the leaf, and of its
     // sibling. The work buffer is used up.
-    fn climb_one(&self, level: usize, position: u16, at: &Sides, work: &mut [u8; 4096]) -> Compared
+    fn climb_one(&self, level: usize, position: u16, at: &Sides, work: &mut [u8; WORK]) -> Compared
         requires under { level < self.now.tree.origin.now.height }
         requires place { position ≡ self.now.leaf / 2 ^ (self.now.tree.origin.now.height - (level + 1)) }
         requires ours { at.now.ours ≡ our_node (hash_of H.TreeHash) (code_of C.Code)
@@ -32,17 +32,23 @@ impl<H: TreeHash, C: Code> Subject<'_, H, C> {
             (code_of C.Code) (traced_of self.now) level (position / 2) }
     {
         let our_sibling = self.tree.grow_node(level + 1, sibling(position), work);
-        let above = self.tree.origin.height as usize - level - 1;
-        let their_sibling = string_at(self.row, C::COUNT + above);
+        let height = self.tree.origin.height;
+        let their_sibling = sibling_in::<C>(height, self.row, level + 1);
         let our_children = Children::in_order(position, &at.ours, &our_sibling);
         let their_children = Children::in_order(position, &at.theirs, &their_sibling);
-        let joiner = self.tree.origin.joiner::<H>();
-        join_both(&joiner, level, position / 2, &our_children, &their_children)
+        let parameters = self.tree.origin.parameters();
+        join_both::<H>(
+            &parameters,
+            level,
+            position / 2,
+            &our_children,
+            &their_children,
+        )
     }
 
     /// The root on both sides, from the leaf's node on both, and the first node on the way that hides that its children
     /// differ. The work buffer is used up.
-    pub(crate) fn climb_to_root(&self, leaf_node: &Sides, work: &mut [u8; 4096]) -> Compared
+    pub(crate) fn climb_to_root(&self, leaf_node: &Sides, work: &mut [u8; WORK]) -> Compared
         requires ours { leaf_node.now.ours ≡ our_node (hash_of H.TreeHash)
             (code_of C.Code) (traced_of self.now) self.now.tree.origin.now.height self.now.leaf }
         requires theirs { leaf_node.now.theirs ≡ their_node (hash_of H.TreeHash)

@@ -35,7 +35,7 @@ module _ (hash : Hash) (code : Code) (laws : Laws hash code) (o : Origin) (w : H
   root-long : length s.root ≡ 16
   root-long =
       let tall = x.begun.tall.1 in
-      let few = laws.level_range.1 in
+      let few = laws.of_code.level_range.1 in
       ap length x.rooted ∙ (node-str hash code s.origin (strings laws x.begun) (s.origin.height + code.levels - 0) 0 0 (omega arith)).0
 
   -- verify accepts what was issued
@@ -46,20 +46,20 @@ module _ (hash : Hash) (code : Code) (laws : Laws hash code) (o : Origin) (w : H
       let below = spent.below in
       let within = x.within in
       subst (λ r. Accepts hash code s stamp r i) (sym spent.is)
-      (accepting hash code s (strings laws b) b.tall laws.level_range.1 root-long i stamp (few-chains laws) (λ k. laws.within stamp k spent.string) x.rooted (omega arith))
+      (accepting hash code s (strings laws b) b.tall laws.of_code.level_range.1 root-long i stamp (few-chains laws) (λ k. laws.of_code.within stamp k spent.string) x.rooted (omega arith))
 
   -- the signer's own key is what open reads
   pub own-verified : (i : ℕ) (stamp bytes : List ℕ) → Accepts hash code s stamp bytes i → verify_rule hash code (own_key hash code s) stamp bytes ≡ Ok i
   own-verified i stamp bytes a =
       let b = x.begun in
-      ap (λ k. verify_rule hash code k stamp bytes) (ok_same (sym (record-opens hash code s b.tall laws.level_range.1 b.keyed.0 b.masked.0 root-long) ∙ a.1)) ∙ a.2
+      ap (λ k. verify_rule hash code k stamp bytes) (ok_same (sym (record-opens hash code s b.tall laws.of_code.level_range.1 b.keyed.0 b.masked.0 root-long) ∙ a.1)) ∙ a.2
 
   pub given : (i : ℕ) (stamp bytes : List ℕ) → Bytes bytes → Accepts hash code s stamp bytes i → Given hash code s stamp bytes i
   given i stamp bytes all a =
       let o' = s.origin in
       let strs = strings laws x.begun in
       let tall = x.begun.tall in
-      let few = laws.level_range.1 in
+      let few = laws.of_code.level_range.1 in
       let own = own_key hash code s in
       let verified = own-verified i stamp bytes a in
       let reads = after-ok (read_rule hash.number code own bytes) (λ release. refuse (not (bytes_eq (root_shown hash code own stamp release) (root_of (key_record hash code s)))) Root (Ok release.leaf)) verified in

@@ -9,11 +9,11 @@ use Rattle.histories.specs.Histories.{Begun}
 
 -- under what begin may be given
 pub strings : {hash : Hash} {code : Code} {o : Origin} → Laws hash code → Begun o → Strings hash o
-strings laws b = record { gives = laws.gives; joins = laws.joins; seeded = b.seeded; keyed = b.keyed; masked = b.masked }
+strings laws b = record { gives = laws.of_hash.gives; joins = laws.of_hash.joins; seeded = b.seeded; keyed = b.keyed; masked = b.masked }
 
 pub lawful : {hash : Hash} {code : Code} {o : Origin} → Laws hash code → Begun o → Lawful hash code o
 lawful laws b = record { strings = strings laws b; laws = laws }
 
 -- a release has few chains
 pub few-chains : {hash : Hash} {code : Code} → Laws hash code → code.count ≤ 256
-few-chains {code = code} laws = let few = laws.level_range.1 in omega (arith, laws.count_range.1, pow_mono {i = code.levels} {j = 8} few)
+few-chains {code = code} laws = let few = laws.of_code.level_range.1 in omega (arith, laws.of_code.count_range.1, pow_mono {i = code.levels} {j = 8} few)

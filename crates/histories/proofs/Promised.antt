@@ -49,7 +49,7 @@ module _ (hash : Hash) (code : Code) (laws : Laws hash code) (o : Origin) (w : H
   unseen : (i k e : ℕ) (row : Option (List ℕ)) → get_or s.rows i None ≡ row → e < revealed_height code row k → Revealed code w i k e → ⊥
   unseen i k e (Some m) at below =
       ⊎_elim
-      (λ top. let low = laws.within m k (entered-str i m at) in omega arith)
+      (λ top. let low = laws.of_code.within m k (entered-str i m at) in omega arith)
       (λ shown. let same : code.digit m k ≡ code.digit shown.1 k = ap (λ n. code.digit n k) (same_Some _ _ (sym at ∙ (x.issued i shown.0 shown.1 shown.2).row)) in omega (arith, shown.3))
   unseen i k e None at below =
       ⊎_elim

@@ -120,7 +120,7 @@ module _ (hash : Hash) (code : Code) (laws : Laws hash code) where
   pub leaf-on : (m : Making) → Growing hash code m → m.grown < 2 ^ m.origin.height → Growing hash code (leaf_more hash code m)
   leaf-on m x room =
       let b = x.begun in
-      let more = holds_more hash code m.origin (strings laws b) b.tall.1 laws.level_range.1 m.grown room m.nodes x.long x.held in
+      let more = holds_more hash code m.origin (strings laws b) b.tall.1 laws.of_code.level_range.1 m.grown room m.nodes x.long x.held in
       record { begun = b; within = omega arith; long = more.0; held = more.1 }
 
   -- with all leaves in, the root is that of the tree
@@ -164,7 +164,7 @@ module _ (hash : Hash) (code : Code) (laws : Laws hash code) where
       writes : take (release_size code s) (sign_output hash code s stamp out) ≡ release_bytes s.next (shown_row hash code s.origin s.next stamp)
       unfolding release_record
       writes =
-          let row = row-filled hash code s.origin s.next stamp (strings laws x.begun) x.begun.tall.1 laws.level_range.1 in
+          let row = row-filled hash code s.origin s.next stamp (strings laws x.begun) x.begun.tall.1 laws.of_code.level_range.1 in
           ap (take (release_size code s)) (cond-false (all_spent s || no_room code s out) _ _ goes)
           ∙ take_at (release_bytes s.next (shown_row hash code s.origin s.next stamp)) _ (release_size code s) (omega arith)
 

@@ -1,6 +1,8 @@
 use Rattle.std.proofs.Common.{ℕ, ◌+◌, ◌*◌, List, Option, sym, refl, ◌∙◌, arith}
 use Rattle.strings.specs.Strings.{string_at}
-use Rattle.tree.specs.Nodes.{join}
+use Rattle.tree.specs.Meaning.{hash_by}
+use Rattle.tree.specs.Nodes.{parent_at}
+use Rattle.tree.specs.Views.{parameters_of}
 use Rattle.compare.specs.Search.{child_find}
 use Rattle.compare.specs.declared.verdict.Find.{Find}
 use Rattle.compare.proofs.Firsts.{first-none, first-after}
@@ -12,21 +14,21 @@ loop-p-init g c = (((λ k h. absurd (omega arith)), (λ k h. refl)), ((λ k h. a
 
 pub loop-p-preserved : goal.loop-p-preserved
 loop-p-preserved g c =
-    let pair = g.H.TreeHash.pairs c.args.joiner.now.key.now in
-    let masks = c.args.joiner.now.masks.now in
+    let hash = hash_by g.H.ChainHash g.H.TreeHash in
+    let by = parameters_of c.args.parameters.now in
     let level = c.args.level in
     let p = c.loop-p.p in
     let inv = c.loop-p.invariant in
     let ours : ℕ → List ℕ = string_at c.args.ours.now in
     let theirs : ℕ → List ℕ = string_at c.args.theirs.now in
-    let at : ℕ → Option Find = λ n. child_find pair masks level (c.args.first + n) (ours (2 * n)) (ours (2 * n + 1)) (theirs (2 * n)) (theirs (2 * n + 1)) in
+    let at : ℕ → Option Find = λ n. child_find hash by level (c.args.first + n) (ours (2 * n)) (ours (2 * n + 1)) (theirs (2 * n)) (theirs (2 * n + 1)) in
     let our = c.children_at-our_children.ensures in
     let their = c.children_at-their_children.ensures in
     let above = c.join_both-above.ensures in (
-      joined-more (join pair masks level) ours (string_at c.loop-p.ours) (string_at c.put_string.new.bytes) p inv.0
+      joined-more (parent_at hash by level) ours (string_at c.loop-p.ours) (string_at c.put_string.new.bytes) p inv.0
           (cc)
           c.put_string.ensures.others,
-      joined-more (join pair masks level) theirs (string_at c.loop-p.theirs) (string_at c.put_string-in-loop-p.new.bytes) p inv.1
+      joined-more (parent_at hash by level) theirs (string_at c.loop-p.theirs) (string_at c.put_string-in-loop-p.new.bytes) p inv.1
           (cc)
           c.put_string-in-loop-p.ensures.others,
       c.or-found.ensures

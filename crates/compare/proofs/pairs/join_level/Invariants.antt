@@ -1,13 +1,16 @@
 use Rattle.std.proofs.Common.{◌≡◌, ◌+◌, ◌*◌}
 use Rattle.strings.specs.Strings.{string_at}
-use Rattle.tree.specs.Nodes.{join}
+use Rattle.tree.specs.Meaning.{hash_by}
+use Rattle.tree.specs.Nodes.{parent_at}
+use Rattle.tree.specs.Views.{parameters_of}
 use Rattle.compare.specs.Search.{first_from, child_find}
 use Rattle.compare.proofs.Joined.{Joined}
 use Rattle.compare.proofs.pairs.join_level.Given as goal
 
 abbrev pub invariant-loop-p : goal.invariant-loop-p
 invariant-loop-p g l =
-    let pair = g.H.TreeHash.pairs l.joiner.key.now in
-    Joined (join pair l.joiner.masks.now l.level) (string_at l.initial.ours) (string_at l.ours) l.p
-    × Joined (join pair l.joiner.masks.now l.level) (string_at l.initial.theirs) (string_at l.theirs) l.p
-    × (l.found ≡ first_from (λ p. child_find pair l.joiner.masks.now l.level (l.first + p) (string_at l.initial.ours (2 * p)) (string_at l.initial.ours (2 * p + 1)) (string_at l.initial.theirs (2 * p)) (string_at l.initial.theirs (2 * p + 1))) 0 l.p)
+    let hash = hash_by g.H.ChainHash g.H.TreeHash in
+    let p = parameters_of l.parameters in
+    Joined (parent_at hash p l.level) (string_at l.initial.ours) (string_at l.ours) l.p
+    × Joined (parent_at hash p l.level) (string_at l.initial.theirs) (string_at l.theirs) l.p
+    × (l.found ≡ first_from (λ q. child_find hash p l.level (l.first + q) (string_at l.initial.ours (2 * q)) (string_at l.initial.ours (2 * q + 1)) (string_at l.initial.theirs (2 * q)) (string_at l.initial.theirs (2 * q + 1))) 0 l.p)

@@ -1,8 +1,7 @@
 use Rattle.std.proofs.Common.{◌≡◌, ◌+◌, ◌-◌, ◌/◌, ◌^◌, sym, ap, ◌∙◌, arith}
 use Rattle.std.proofs.lemmas.Nat.{shr-shr}
-use Rattle.strings.specs.Strings.{string_at}
 use Rattle.tree.specs.Meaning.{hash_by, code_of}
-use Rattle.tree.specs.Nodes.{join}
+use Rattle.tree.specs.Nodes.{parent_at}
 use Rattle.growth.specs.Shown.{sibling_of}
 use Rattle.growth.proofs.Paths.{shr-none, sibling-below}
 use Rattle.growth.proofs.Trees.{node-up}
@@ -39,19 +38,18 @@ returns g c =
     let theirs = their_node hash code t (a + 1) in
     let our-beside : c.grow_node-our_sibling.result ≡ ours (sibling_of position) = c.grow_node-our_sibling.ensures ∙ ap ours c.sibling.ensures in
     let e = h - (a + 1) in
-    let place : c.COUNT.result + (h - a - 1) ≡ code.count + e = omega (arith, c.COUNT.ensures) in
     let level : h - e ≡ a + 1 = omega arith in
-    let their-beside : c.string_at-their_sibling.result ≡ theirs (sibling_of position) =
-    c.string_at-their_sibling.ensures ∙ ap (string_at t.row) place ∙ sym (their-sibling hash code t e (omega arith)) ∙ (λ i. their_node hash code t (level i) (sibling_of (sym c.requires.place i))) in
+    let their-beside : c.sibling_in-their_sibling.result ≡ theirs (sibling_of position) =
+    c.sibling_in-their_sibling.ensures ∙ sym (their-sibling hash code t e (omega arith)) ∙ (λ i. their_node hash code t (level i) (sibling_of (sym c.requires.place i))) in
     let l = c.in_order-our_children.ensures.left ∙ left-child ours position _ _ c.requires.ours our-beside in
     let r = c.in_order-our_children.ensures.right ∙ right_child ours position _ _ c.requires.ours our-beside in
     let l' = c.in_order-their_children.ensures.left ∙ left-child theirs position _ _ c.requires.theirs their-beside in
     let r' = c.in_order-their_children.ensures.right ∙ right_child theirs position _ _ c.requires.theirs their-beside in
     let half : b ≡ t.leaf / 2 ^ (h - a) = ap (λ n. n / 2) c.requires.place ∙ shr-shr t.leaf (h - (a + 1)) 1 ∙ ap (λ n. t.leaf / 2 ^ n) (omega arith) in
     let near : b / 2 ^ (a - h) ≡ t.leaf / 2 ^ (h - a) = shr-none b (a - h) (omega arith) ∙ half in
-    let by = c.joiner-joiner.ensures in
+    let by = c.parameters-parameters.ensures.value in
     record {
-      ours = c.join_both.ensures.ours ∙ (λ i. join (hash.pair (by.key i)) (by.masks i) a (l i) (r i)) ∙ sym (node-up hash code t.origin a b (omega arith));
-      theirs = c.join_both.ensures.theirs ∙ (λ i. join (hash.pair (by.key i)) (by.masks i) a (l' i) (r' i)) ∙ sym (their-parent hash code t a b (omega arith) near);
-      find = c.join_both.ensures.find ∙ (λ i. child_find (hash.pair (by.key i)) (by.masks i) a b (l i) (r i) (l' i) (r' i));
+      ours = c.join_both.ensures.ours ∙ (λ i. parent_at hash (by i) a (l i) (r i)) ∙ sym (node-up hash code t.origin a b (omega arith));
+      theirs = c.join_both.ensures.theirs ∙ (λ i. parent_at hash (by i) a (l' i) (r' i)) ∙ sym (their-parent hash code t a b (omega arith) near);
+      find = c.join_both.ensures.find ∙ (λ i. child_find hash (by i) a b (l i) (r i) (l' i) (r' i));
     }

@@ -28,7 +28,7 @@ returns g c =
       theirs = cc;
       broken =
           c.raise_both-top.ensures.find
-          ∙ (λ i. last_from (λ e. step_find step k e (raise step (e - is i) (ours i)) (raise step (e - is i) (c.string_at-theirs.ensures i))) (is i) (top i - is i))
+          ∙ (λ i. last_from (λ e. step_find step k e (raise step (e - is i) (ours i)) (raise step (e - is i) (c.chain_in-theirs.ensures i))) (is i) (top i - is i))
           ∙ last-same _ (chain_find_at hash code t k) d (code.top - d)
           (λ e below.
           let back : (d + e - d) + d ≡ d + e = omega arith in

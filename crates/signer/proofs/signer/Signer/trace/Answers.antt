@@ -54,7 +54,7 @@ module _ (g : given.Over) (c : Start g) where
 
   -- the signer reads as verify does under its own key
   reads : ReadsOwn hash code s stamp bytes c.args.report.now
-  reads = own-reads hash code s (signer-strings hash c.args.self.now laws.gives laws.joins) c.args.self.now.tall laws.level_range.1 c.args.self.now.sized.2 stamp bytes
+  reads = own-reads hash code s (signer-strings hash c.args.self.now laws.of_hash.gives laws.of_hash.joins) c.args.self.now.tall laws.of_code.level_range.1 c.args.self.now.sized.2 stamp bytes
 
   -- what is ensured of an answer and a report that are by the rule
   ends : {W : Type 0} → ((i : ℕ) → Fits w8 (get_or bytes i 0)) → (r : Result (ℕ × ℕ × ℕ) Refusal) (after : List ℕ) → ByRule hash code s stamp bytes c.args.report.now r after → W → record { answer : r ≡ trace_answer hash code s stamp bytes; refuses : Refuses (trace_causes hash code s stamp bytes) r; report : after ≡ trace_report hash code s stamp bytes c.args.report.now; finds : Finds hash code s stamp bytes r after; lived : (x : State) → IsSigner x s → Continues hash code x (trace stamp bytes c.args.report.now r after) x; promise : Promised hash code s stamp bytes r after; behind : HasLived hash code (serving s); wiped : W }
