@@ -1,7 +1,7 @@
 -- Calls of grow, counted.
 use Rattle.std.proofs.Common.{◌≡◌, ℕ, ◌+◌, sym, refl, ap, add-one}
-use Rattle.histories.specs.Rules.{grow_leaves}
-use Rattle.histories.specs.States.{Making}
+use Rattle.rules.specs.Rules.{grow_state}
+use Rattle.rules.specs.States.{Making}
 use Rattle.tree.specs.Meaning.{Hash, Code}
 use Rattle.bench_calls.specs.Lives.{grows}
 
@@ -9,6 +9,6 @@ pub grows_none : (hash : Hash) (code : Code) (m : Making) → m ≡ grows hash c
 unfolding grows
 grows_none hash code m = refl
 
-pub grows-more : (hash : Hash) (code : Code) (n : ℕ) (m : Making) → grow_leaves hash code (grows hash code n m) ≡ grows hash code (n + 1) m
+pub grows-more : (hash : Hash) (code : Code) (n : ℕ) (m : Making) → grow_state hash code (grows hash code n m) ≡ grows hash code (n + 1) m
 unfolding grows
 grows-more hash code n m = ap (λ k. grows hash code k m) (sym (add-one n))

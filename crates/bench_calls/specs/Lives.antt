@@ -1,13 +1,14 @@
 -- What the calls on whole keys answer and leave: each lives a key's life from its source on, by the rules of verifier and signer.
 use Rattle.std.specs.Prelude.{ℕ, false, true, zero, suc, List, replicate, Some, None, Ok, Err, Option, Result}
 use Rattle.growth.specs.declared.origin.Origin.{Origin}
-use Rattle.histories.specs.Rules.{plan_rule, begin_rule, grow_leaves, held_rule, finish_rule, key_answer, key_output, sign_answer, sign_state, sign_output, skip_state, trace_answer, trace_report}
-use Rattle.histories.specs.States.{Making, Signing}
+use Rattle.rules.specs.Rules.{plan_rule, begin_rule, grow_state, held_rule, finish_state, key_answer, key_output, sign_answer, sign_state, sign_output, skip_state, trace_answer, trace_report}
+use Rattle.rules.specs.States.{Making, Signing}
 use Rattle.tree.specs.Meaning.{Hash, Code}
 use Rattle.tree.specs.Nodes.{raise}
-use Rattle.verifier.specs.Refusals.{refusal_number}
-use Rattle.verifier.specs.Rules.{after, open_rule, verify_rule}
-use Rattle.verifier.specs.declared.refusal.Refusal.{Refusal}
+use Rattle.records.specs.Refusals.{refusal_number}
+use Rattle.records.specs.Rules.{after, open_rule}
+use Rattle.verifier.specs.Rules.{verify_rule}
+use Rattle.records.specs.declared.refusal.Refusal.{Refusal}
 use Rattle.schemes.specs.Names.{hash_named, code_named, scheme_numbered}
 use Rattle.schemes.specs.declared.scheme.Scheme.{Scheme}
 use Rattle.schemes.specs.declared.unknown.UnknownScheme.{UnknownScheme}
@@ -88,7 +89,7 @@ begun source = after (plan_rule source.height) (λ height. Ok (begin_rule (origi
 -- n calls of grow
 unfoldable pub grows : Hash → Code → ℕ → Making → Making
 grows hash code zero m = m
-grows hash code (suc n) m = grow_leaves hash code (grows hash code n m)
+grows hash code (suc n) m = grow_state hash code (grows hash code n m)
 
 -- begin, n calls of grow, and whether a node is held at a level, with its position; and that node's string
 abbrev pub held_numbers : Option (ℕ × List ℕ) → ℕ × ℕ
@@ -108,7 +109,7 @@ grown_node hash code source n level node =
 
 -- begin and finish
 abbrev pub finished : Hash → Code → Source → Result Signing Refusal
-finished hash code source = after (begun source) (λ m. Ok (finish_rule hash code m))
+finished hash code source = after (begun source) (λ m. Ok (finish_state hash code m))
 
 -- begin, finish, and key n times and once more
 abbrev pub keyed : Hash → Code → Source → ℕ → List ℕ → Result ℕ Refusal

@@ -47,7 +47,7 @@ pub extern "C" fn verify_release(
 
 /// Begins a key and grows leaves: whether a node is held at the level, and its position; `node` is then its string.
 #[unsafe(no_mangle)]
-pub extern "C" fn grow_leaves(
+pub extern "C" fn grow_state(
     hash: u8,
     code: u8,
     source: &Source,

@@ -5,7 +5,7 @@ ghost use Rattle.bench_calls.specs.Lives.{begun, grows, grown, grown_node, finis
 ghost use Rattle.schemes.specs.Tasks.{Wrote};
 ghost use Rattle.signer.specs.Views.{making_of, signing_of};
 ghost use Rattle.tree.specs.Meaning.{hash_of, code_of};
-ghost use Rattle.verifier.specs.Rules.{seen};
+ghost use Rattle.records.specs.Rules.{seen};
 
 use crate::source::Source;
 use codes::Code;

@@ -6,16 +6,17 @@ use Rattle.strings.specs.Strings.{numeral, string_at}
 use Rattle.tree.specs.Nodes.{raise, node, climb}
 use Rattle.growth.specs.Grown.{node_at, carry}
 use Rattle.growth.specs.Shown.{sibling_of, shown_row}
-use Rattle.verifier.specs.Records.{release_bytes, row_of}
-use Rattle.verifier.specs.Rules.{verify_rule, after}
+use Rattle.records.specs.Records.{release_bytes, row_of}
+use Rattle.verifier.specs.Rules.{verify_rule}
+use Rattle.records.specs.Rules.{after}
 use Rattle.compare.specs.Found.{verdict_numbers, verdict_report}
 use Rattle.compare.specs.Search.{first_from, last_from, level_search, chain_search, hidden_search, chosen, found}
 use Rattle.compare.specs.Sides.{Traced, our_node, their_node}
 use Rattle.compare.specs.declared.verdict.Find.{Find}
 use Rattle.compare.specs.declared.verdict.Verdict.{Verdict}
 use Rattle.compare.specs.declared.verdict.Verdict.TheVariants.{Ours, Node, Chain, Unrevealed}
-use Rattle.histories.specs.Rules.{leaves_more, key_record, release_record, sign_state, sign_output, own_key, traced_by, trace_answer, trace_report, report_after}
-use Rattle.histories.specs.States.{Signing}
+use Rattle.rules.specs.Rules.{leaves_more, key_record, release_record, sign_state, sign_output, own_key, traced_by, trace_answer, trace_report, report_after}
+use Rattle.rules.specs.States.{Signing}
 use Rattle.compare.proofs.Agreeing.{SameNode}
 use Rattle.examples.specs.Setting.{string, practice, code1, origin}
 use Rattle.examples.specs.Examples.{Outcome, gives, Right, answered_three, new, output, written, signed, changed, shown, one_changed, two_changed, verdict, reported, tracing}

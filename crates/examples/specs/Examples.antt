@@ -6,11 +6,11 @@ use Rattle.codes.specs.Codes.{checksum, ending}
 use Rattle.tree.specs.Meaning.{Code}
 use Rattle.tree.specs.Nodes.{join}
 use Rattle.growth.specs.Grown.{secret}
-use Rattle.verifier.specs.Records.{key_length, release_length, row_of}
-use Rattle.verifier.specs.Refusals.{refusal_number}
-use Rattle.verifier.specs.declared.refusal.Refusal.{Refusal}
-use Rattle.histories.specs.Rules.{sign_answer, sign_state, sign_output, skip_answer, skip_state, trace_answer, trace_report}
-use Rattle.histories.specs.States.{Signing}
+use Rattle.records.specs.Records.{key_length, release_length, row_of}
+use Rattle.records.specs.Refusals.{refusal_number}
+use Rattle.records.specs.declared.refusal.Refusal.{Refusal}
+use Rattle.rules.specs.Rules.{sign_answer, sign_state, sign_output, skip_answer, skip_state, trace_answer, trace_report}
+use Rattle.rules.specs.States.{Signing}
 use Rattle.examples.specs.Setting.{string, practice, code1, code2, code3, origin, fresh}
 
 -- numbers, or a refusal by its number

@@ -10,8 +10,8 @@ use Rattle.codes.specs.contracts.widths.FourBitsDigitWidth.TheImpl as four_bits_
 use Rattle.codes.specs.contracts.winternitz.WinternitzCode.TheImpl as winternitz
 use Rattle.tree.specs.Meaning.{Hash, Code, hash_by, code_of}
 use Rattle.growth.specs.declared.origin.Origin.{Origin}
-use Rattle.histories.specs.Rules.{begin_rule, finish_rule}
-use Rattle.histories.specs.States.{Signing}
+use Rattle.rules.specs.Rules.{begin_rule, finish_state}
+use Rattle.rules.specs.States.{Signing}
 
 -- the string whose byte 0 is b, and the rest zero
 abbrev pub string : ℕ → List ℕ
@@ -36,4 +36,4 @@ origin h = record { seed = string 0; hash_key = string 0; masks = replicate 512 
 
 -- the signer that finish gives
 abbrev pub fresh : Code → ℕ → Signing
-fresh code h = finish_rule practice code (begin_rule (origin h))
+fresh code h = finish_state practice code (begin_rule (origin h))

@@ -1,12 +1,6 @@
-pub mod Accepting
 pub mod Continuing
 pub mod Given
-pub mod Laws
 pub mod Living
 pub mod Once
-pub mod Opening
-pub mod Own
 pub mod Promised
-pub mod Refusing
 pub mod Sound
-pub mod Tracing

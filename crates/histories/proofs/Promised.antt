@@ -15,16 +15,17 @@ use Rattle.compare.proofs.Agreeing.{row_shows}
 use Rattle.growth.specs.declared.origin.Origin.{Origin}
 use Rattle.strings.specs.Strings.{Bytes, Str}
 use Rattle.tree.specs.Meaning.{Hash, Code}
-use Rattle.verifier.specs.Records.{release_bytes, row_of}
+use Rattle.records.specs.Records.{release_bytes, row_of}
 use Rattle.verifier.specs.Rules.{verify_rule}
-use Rattle.verifier.proofs.Facts.{after-at, ok_same}
+use Rattle.records.proofs.Facts.{after-at, ok_same}
 use Rattle.histories.specs.Histories.{State, IsSigner, History, Lived, Issued}
 use Rattle.histories.specs.Promise.{Revealed, VerdictOurs, SaysOurs, ShowsFirst, Breaks, pair_break, step_break, Promise}
 use Rattle.histories.specs.Promise as promise
-use Rattle.histories.specs.Rules.{Accepts, own_key, traced_by, report_after, trace_answer, trace_report}
-use Rattle.histories.specs.States.{Signing}
+use Rattle.rules.specs.Rules.{Accepts, own_key, traced_by, report_after, trace_answer, trace_report}
+use Rattle.rules.specs.States.{Signing}
 use Rattle.histories.proofs.Given.{Given, accepted, own-verified, given}
-use Rattle.histories.proofs.Laws.{Laws, lawful}
+use Rattle.tree.specs.Laws.{Laws}
+use Rattle.rules.proofs.Laws.{lawful}
 use Rattle.histories.proofs.Living.{sound}
 use Rattle.histories.proofs.Once.{once}
 use Rattle.histories.proofs.Sound.{Sound}
@@ -50,11 +51,11 @@ module _ (hash : Hash) (code : Code) (laws : Laws hash code) (o : Origin) (w : H
   unseen i k e (Some m) at below =
       ⊎_elim
       (λ top. let low = laws.of_code.within m k (entered-str i m at) in omega arith)
-      (λ shown. let same : code.digit m k ≡ code.digit shown.1 k = ap (λ n. code.digit n k) (same_Some _ _ (sym at ∙ (x.issued i shown.0 shown.1 shown.2).row)) in omega (arith, shown.3))
+      (λ shown. let same : code.digit m k ≡ code.digit shown.1 k = ap (λ n. code.digit n k) (same_Some _ _ (sym at ∙ (x.issued i shown.0 shown.1 shown.2.issued).row)) in omega (arith, shown.2.low))
   unseen i k e None at below =
       ⊎_elim
       (λ top. omega arith)
-      (λ shown. none-some shown.1 (sym at ∙ (x.issued i shown.0 shown.1 shown.2).row))
+      (λ shown. none-some shown.1 (sym at ∙ (x.issued i shown.0 shown.1 shown.2.issued).row))
 
   module _ (stamp bytes : List ℕ) (str : Str stamp) (all : Bytes bytes) (i : ℕ) where
     abbrev t : Traced
@@ -94,20 +95,35 @@ module _ (hash : Hash) (code : Code) (laws : Laws hash code) (o : Origin) (w : H
 
     -- what is found of any other is a break
     found-breaks : Given hash code s stamp bytes i → (Issued w i bytes stamp → ⊥) → {v : Verdict} → Found hash code t v → Breaks hash code w s stamp bytes i (Ok (verdict_numbers i v)) (verdict_report v)
-    found-breaks g never (node_break a b n least) =
-        pair_break _ _ a b refl (node-report-differs hash code t law tall g.filled row-bytes a b n) (node-report-meets hash code t law tall g.filled row-bytes a b n)
-    found-breaks g never (chain_break nodes k e c least) =
-        step_break _ _ k e refl (chain-report-differs hash code t law tall g.filled row-bytes k e c) (chain-report-meets hash code t law tall g.filled row-bytes k e c)
-    found-breaks g never (unrevealed nodes chains k h least) =
-        let row = row-true hash code t law tall str g.placed g.filled nodes chains g.leads in
-        let shows = (row_shows hash code t law tall row).0 k h.chain in
-        promise.unrevealed _ _ k (code.digit stamp k) refl h.chain refl (hidden-report hash code t law tall k) (shows ∙ sym (hidden-report hash code t law tall k)) (unseen i k (code.digit stamp k) (get_or s.rows i None) refl h.below)
-    found-breaks g never (ours nodes chains hidden) = absurd (never (was-issued g (ours nodes chains hidden)))
+    found-breaks g never (node_break a b f) =
+        pair_break a b refl
+        (record {
+          differ = node-report-differs hash code t law tall g.filled row-bytes a b f.breaks;
+          meet = node-report-meets hash code t law tall g.filled row-bytes a b f.breaks;
+        })
+    found-breaks g never (chain_break k e f) =
+        step_break k e refl
+        (record {
+          differ = chain-report-differs hash code t law tall g.filled row-bytes k e f.breaks;
+          meet = chain-report-meets hash code t law tall g.filled row-bytes k e f.breaks;
+        })
+    found-breaks g never (unrevealed k f) =
+        let row = row-true hash code t law tall str g.placed g.filled f.no_node f.no_chain g.leads in
+        let shows = (row_shows hash code t law tall row).0 k f.hides.chain in
+        promise.unrevealed k (code.digit stamp k) refl
+        (record {
+          chain = f.hides.chain;
+          height = refl;
+          own = hidden-report hash code t law tall k;
+          shown = shows ∙ sym (hidden-report hash code t law tall k);
+          hidden = unseen i k (code.digit stamp k) (get_or s.rows i None) refl f.hides.below;
+        })
+    found-breaks g never (ours none) = absurd (never (was-issued g (ours none)))
 
-    shows-first : Accepts hash code s stamp bytes i → (report : List ℕ) → ShowsFirst hash code s stamp bytes i (trace_answer hash code s stamp bytes) (trace_report hash code s stamp bytes report)
+    shows-first : Accepts hash code s stamp bytes i → (report : List ℕ) → (v : Verdict) × ShowsFirst hash code s stamp bytes i (trace_answer hash code s stamp bytes) (trace_report hash code s stamp bytes report) v
     shows-first a report =
         let verified = (given hash code laws o w s x i stamp bytes all a).verified in
-        (found hash code t, found_first hash code t, answers verified, reports verified report)
+        (found hash code t, record { first = found_first hash code t; answers = answers verified; reports = reports verified report })
 
     breaks : Accepts hash code s stamp bytes i → (Issued w i bytes stamp → ⊥) → (report : List ℕ) → Breaks hash code w s stamp bytes i (trace_answer hash code s stamp bytes) (trace_report hash code s stamp bytes report)
     breaks a never report =

@@ -1,5 +1,5 @@
 -- A ledger that is what a history issued, and what each call leaves of that.
-use Rattle.std.proofs.Common.{◌≡◌, ℕ, zero, suc, ◌+◌, ◌-◌, ◌^◌, ◌<◌, ◌≤◌, Bool, true, false, cond, ◌||◌, ◌⊎◌, List, [], ◌∷◌, length, get_or, take, set, replicate, Some, None, Ok, Err, Option, sym, refl, ap, ◌∙◌, subst, inl, inr, ⊎_elim, arith, pow_mono}
+use Rattle.std.proofs.Common.{◌≡◌, ℕ, zero, suc, ◌+◌, ◌-◌, ◌^◌, ◌<◌, ◌≤◌, Bool, true, false, cond, ◌||◌, ◌⊎◌, List, [], ◌∷◌, length, get_or, take, replicate, Some, None, Ok, Err, Option, Result, sym, refl, ap, ◌∙◌, subst, inl, inr, ⊎_elim, arith, pow_mono}
 use Rattle.std.proofs.lemmas.List.{length-set, get_or-set_same, get_or-set_other, take_at}
 use Rattle.std.proofs.lemmas.Bool.{cond-false, or_parts, eqb-false, cases_eq}
 use Rattle.growth.specs.Grown.{node_at, Holds}
@@ -9,14 +9,17 @@ use Rattle.growth.proofs.Carries.{holds_more}
 use Rattle.growth.proofs.Trees.{holds-root}
 use Rattle.strings.specs.Strings.{Str, string_at}
 use Rattle.tree.specs.Meaning.{Hash, Code}
-use Rattle.verifier.specs.Records.{release_bytes}
-use Rattle.verifier.specs.declared.refusal.Refusal.TheVariants.{Spent, Output}
+use Rattle.records.specs.Records.{release_bytes}
+use Rattle.records.specs.declared.refusal.Refusal.{Refusal}
+use Rattle.records.specs.declared.refusal.Refusal.TheVariants.{Spent, Output}
 use Rattle.std.proofs.lemmas.Option.{none-some, same_Some}
-use Rattle.histories.specs.Histories.{Event, grow, finish, key, sign, skip, retire, trace, History, Begun, Issued, here, there}
-use Rattle.histories.specs.Rules.{Rooted, leaf_more, leaves_more, finish_rule, release_size, release_record, all_spent, no_room, sign_answer, sign_output}
-use Rattle.histories.specs.States.{Making, Signing}
-use Rattle.histories.proofs.Accepting.{row-filled}
-use Rattle.histories.proofs.Laws.{Laws, strings}
+use Rattle.histories.specs.Histories.{Event, grow, finish, key, sign, skip, retire, trace, History, Issued, issues, here, there}
+use Rattle.rules.specs.States.{Begun}
+use Rattle.rules.specs.Rules.{Rooted, leaf_more, leaves_more, finish_state, release_size, release_record, leaf_spent, all_spent, no_room, sign_answer, sign_output}
+use Rattle.rules.specs.States.{Making, Signing}
+use Rattle.rules.proofs.Accepting.{row-filled}
+use Rattle.tree.specs.Laws.{Laws}
+use Rattle.rules.proofs.Laws.{strings}
 
 -- a leaf that was spent: its number, its row of the ledger, and the record and the stamp it was spent on
 pub record SpentOn (hash : Hash) (code : Code) (s : Signing) (i : ℕ) (bytes stamp : List ℕ) : Type 0 where
@@ -59,17 +62,20 @@ Idle e = (i : ℕ) (bytes stamp : List ℕ) → Fresh e i bytes stamp → ⊥
 abbrev pub Unissued : History → Type 0
 Unissued w = (i : ℕ) (bytes stamp : List ℕ) → Issued w i bytes stamp → ⊥
 
--- a sign call, and the signer that it leaves where it is not refused
+-- a sign call
 abbrev pub sign_of : Hash → Code → Signing → List ℕ → List ℕ → Event
 sign_of hash code s stamp out = sign stamp out (sign_answer code s out) (sign_output hash code s stamp out)
 
-abbrev pub signed_on : Signing → List ℕ → Signing
-signed_on s stamp = record { origin = s.origin; root = s.root; next = s.next + 1; rows = set s.rows s.next (Some stamp) }
+-- what an answer and an output issue
+issued-here : (w : History) (stamp out after bytes : List ℕ) (answer : Result (ℕ × ℕ) Refusal) (n i : ℕ) → answer ≡ Ok (n, i) → bytes ≡ take n after → Issued (sign stamp out answer after ∷ w) i bytes stamp
+issued-here w stamp out after bytes answer n i p q =
+    subst (λ a. Issued (sign stamp out a after ∷ w) i bytes stamp) (sym p)
+    (subst (λ b. Issued (sign stamp out (Ok (n, i)) after ∷ w) i b stamp) (sym q) (here issues))
 
 -- what was issued was so before the newest call, or by it
 pub newest : {e : Event} {w : History} {i : ℕ} {bytes stamp : List ℕ} → Issued (e ∷ w) i bytes stamp → Issued w i bytes stamp ⊎ Fresh e i bytes stamp
-newest (here w stamp out after bytes answer n i p q) = inr (refl, (n, p, q))
-newest (there e w i bytes stamp x) = inl x
+newest (here (issues {stamp} {out} {after} {n})) = inr (refl, (n, refl, refl))
+newest (there x) = inl x
 
 pub unissued-begun : Unissued []
 unissued-begun i bytes stamp x = elim x [ ]
@@ -109,7 +115,7 @@ module _ (hash : Hash) (code : Code) (o : Origin) where
             (λ (old : Issued w i bytes stamp). let spent = x.issued i bytes stamp old in let below = spent.below in record { below = omega arith; row = spent.row; string = spent.string; is = spent.is })
             (λ fresh. absurd (idle i bytes stamp fresh))
             (newest y);
-        entered = λ i stamp row. there e w i _ stamp (x.entered i stamp row);
+        entered = λ i stamp row. there (x.entered i stamp row);
       }
 
   pub sound-on : (e : Event) (w : History) (s : Signing) → Idle e → Sound hash code o w s → Sound hash code o (e ∷ w) s
@@ -132,7 +138,7 @@ module _ (hash : Hash) (code : Code) (laws : Laws hash code) where
   root-on (suc n) m x all = root-on n (leaf_more hash code m) (leaf-on m x (omega arith)) (omega arith)
 
   module _ (o : Origin) where
-    pub finish-on : (w : History) (m : Making) → m.origin ≡ o → Growing hash code m → Unissued w → Sound hash code o (finish ∷ w) (finish_rule hash code m)
+    pub finish-on : (w : History) (m : Making) → m.origin ≡ o → Growing hash code m → Unissued w → Sound hash code o (finish ∷ w) (finish_state hash code m)
     finish-on w m from x none =
         let within = x.within in
         record {
@@ -151,10 +157,10 @@ module _ (hash : Hash) (code : Code) (laws : Laws hash code) where
       event = sign_of hash code s stamp out
 
       abbrev next : Signing
-      next = signed_on s stamp
+      next = leaf_spent s stamp
 
-      left : s.next < 2 ^ s.origin.height
-      left = let within = x.within in let ne = eqb-false s.next (2 ^ s.origin.height) (or_parts (all_spent s) (no_room code s out) goes).0 in omega arith
+      unspent : s.next < 2 ^ s.origin.height
+      unspent = let within = x.within in let ne = eqb-false s.next (2 ^ s.origin.height) (or_parts (all_spent s) (no_room code s out) goes).0 in omega arith
 
       answers : sign_answer code s out ≡ Ok (release_size code s, s.next)
       answers =
@@ -173,7 +179,7 @@ module _ (hash : Hash) (code : Code) (laws : Laws hash code) where
           let b = x.begun in
           let many : 2 ^ s.origin.height ≤ 256 = pow_mono {i = s.origin.height} {j = 8} b.tall.1 in
           let long = x.long in
-          let room = left in
+          let room = unspent in
           let here-row : get_or next.rows s.next None ≡ Some stamp = get_or-set_same s.rows s.next (Some stamp) None (omega arith) in
           let other_row : (i : ℕ) → (i ≡ s.next → ⊥) → get_or next.rows i None ≡ get_or s.rows i None = λ i ne. get_or-set_other s.rows s.next i (Some stamp) None ne in
           record {
@@ -205,7 +211,7 @@ module _ (hash : Hash) (code : Code) (laws : Laws hash code) where
                 let same : stamp ≡ m = same_Some _ _ (sym here-row ∙ ap (λ k. get_or next.rows k None) is ∙ row) in
                 subst (λ k. Issued (event ∷ w) k (release_bytes k (shown_row hash code s.origin k m)) m) is
                 (subst (λ u. Issued (event ∷ w) s.next (release_bytes s.next (shown_row hash code s.origin s.next u)) u) same
-                (here w stamp out _ _ _ (release_size code s) s.next answers (sym writes))))
-                (λ (ne : s.next ≡ i → ⊥). there event w i _ m (x.entered i m (sym (other_row i (λ e. ne (sym e))) ∙ row)))
+                (issued-here w stamp out _ _ _ (release_size code s) s.next answers (sym writes))))
+                (λ (ne : s.next ≡ i → ⊥). there (x.entered i m (sym (other_row i (λ e. ne (sym e))) ∙ row)))
                 (cases_eq s.next i);
           }

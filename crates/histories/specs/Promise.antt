@@ -1,55 +1,102 @@
--- What is promised of every history that leads to a signer, in service or retired, that traces a record.
+-- What is promised of every history that leads to a signer, in service or retired, that traces a
+-- record.
 use Rattle.std.specs.Prelude.{◌≡◌, ◌≢◌, ℕ, ◌<◌, ◌≤◌, ◌⊎◌, List, ◌∷◌, ◌++◌, take, drop}
 use Rattle.std.specs.Prelude.{replicate, Ok, Result}
-use Rattle.compare.specs.Found.{Found, verdict_numbers, verdict_report}
+use Rattle.compare.specs.Found.{Found, report_size, verdict_numbers, verdict_report}
 use Rattle.compare.specs.declared.verdict.Verdict.{Verdict}
 use Rattle.growth.specs.Grown.{chain_string}
 use Rattle.growth.specs.declared.origin.Origin.{Origin}
 use Rattle.strings.specs.Strings.{string_at}
 use Rattle.tree.specs.Meaning.{Hash, Code}
-use Rattle.verifier.specs.Records.{row_of}
-use Rattle.verifier.specs.declared.refusal.Refusal.{Refusal}
-use Rattle.histories.specs.Histories.{State, IsSigner, History, sign, Lived, Issued}
-use Rattle.histories.specs.Rules.{Accepts, traced_by}
-use Rattle.histories.specs.States.{Signing}
+use Rattle.tree.specs.Rows.{chain_in}
+use Rattle.records.specs.Records.{row_of}
+use Rattle.records.specs.declared.refusal.Refusal.{Refusal}
+use Rattle.rules.specs.Rules.{Accepts, traced_by}
+use Rattle.rules.specs.States.{Signing}
+use Rattle.histories.specs.Histories.{State, IsSigner, Event, History, Lived}
+use Rattle.histories.specs.Histories.{HandsOut, HandedOut, Issued}
 
--- no leaf number is issued twice: what a sign call answered, no call before it had answered
+-- no leaf number is handed out twice: what a call hands out, no call before it had handed out
 abbrev pub Once : History → Type 0
 Once w =
-    (later earlier : History) (stamp out after : List ℕ) (n i : ℕ) → w ≡ later ++ (sign stamp out (Ok (n, i)) after ∷ earlier) → (bytes stamp' : List ℕ) → Issued earlier i bytes stamp' → ⊥
+    (later earlier : History) (call : Event) (i : ℕ) → w ≡ later ++ (call ∷ earlier) →
+    HandsOut call i → HandedOut earlier i → ⊥
 
--- of chain k of leaf i, the history revealed height e: the top digit; and where it issued a record there, the heights from
--- the digit of that record's stamp up to the top digit
+-- the history issued a record of leaf i for a stamp whose digit at chain k is at most e
+pub record RevealedBy (code : Code) (w : History) (i k e : ℕ) (bytes stamp : List ℕ) : Type 0 where
+  pub issued : Issued w i bytes stamp
+  pub low : code.digit stamp k ≤ e
+  pub high : e ≤ code.top
+
+-- of chain k of leaf i, the history revealed height e: the top digit; and where it issued a record
+-- there, the heights from the digit of that record's stamp up to the top digit
 abbrev pub Revealed : Code → History → ℕ → ℕ → ℕ → Type 0
 Revealed code w i k e =
-    (e ≡ code.top) ⊎ ((bytes : List ℕ) × (stamp : List ℕ) × Issued w i bytes stamp × (code.digit stamp k ≤ e) × (e ≤ code.top))
+    (e ≡ code.top)
+    ⊎ ((bytes : List ℕ) × (stamp : List ℕ) × RevealedBy code w i k e bytes stamp)
+
+-- an answer of trace
+abbrev pub Traces : Type 0
+Traces = Result (ℕ × ℕ × ℕ) Refusal
 
 -- the verdict is 0, whatever the two numbers and the report
-abbrev pub VerdictOurs : Result (ℕ × ℕ × ℕ) Refusal → Type 0
+abbrev pub VerdictOurs : Traces → Type 0
 VerdictOurs r = (x : ℕ) × (y : ℕ) × (r ≡ Ok (0, x, y))
 
 -- trace says that the record is ours, as leaf i: it answers 0, i and 0, and the report is zeros
-abbrev pub SaysOurs : ℕ → Result (ℕ × ℕ × ℕ) Refusal → List ℕ → Type 0
-SaysOurs i r report = (r ≡ Ok (0, i, 0)) × (report ≡ replicate 64 0)
+abbrev pub SaysOurs : ℕ → Traces → List ℕ → Type 0
+SaysOurs i r report = (r ≡ Ok (0, i, 0)) × (report ≡ replicate report_size 0)
 
--- trace shows where the hash gave way, for a record with leaf number i: its report holds two different inputs of pair with
--- one value; or two different strings that step to one; or the signer's own string of a chain of this leaf, at the height of
--- the stamp's digit, which the record shows and the history did not reveal
-pub data Breaks (hash : Hash) (code : Code) (w : History) (s : Signing) (stamp bytes : List ℕ) (i : ℕ) : Result (ℕ × ℕ × ℕ) Refusal → List ℕ → Type 0 where
-  pair_break : (r : Result (ℕ × ℕ × ℕ) Refusal) (report : List ℕ) (a b : ℕ) → r ≡ Ok (1, a, b) → (take 32 report ≢ drop 32 report) → hash.pair s.origin.hash_key (string_at report 0) (string_at report 1) ≡ hash.pair s.origin.hash_key (string_at report 2) (string_at report 3) → Breaks hash code w s stamp bytes i r report
-  step_break : (r : Result (ℕ × ℕ × ℕ) Refusal) (report : List ℕ) (k e : ℕ) → r ≡ Ok (2, k, e) → (string_at report 0 ≢ string_at report 1) → hash.step s.origin.hash_key (string_at report 0) ≡ hash.step s.origin.hash_key (string_at report 1) → Breaks hash code w s stamp bytes i r report
-  unrevealed : (r : Result (ℕ × ℕ × ℕ) Refusal) (report : List ℕ) (k e : ℕ) → r ≡ Ok (3, k, e) → k < code.count → e ≡ code.digit stamp k → string_at report 0 ≡ chain_string hash s.origin i k e → string_at (row_of bytes) k ≡ string_at report 0 → (Revealed code w i k e → ⊥) → Breaks hash code w s stamp bytes i r report
+-- a report of two different inputs of pair with one value
+pub record PairBreak (hash : Hash) (key report : List ℕ) : Type 0 where
+  pub differ : take 32 report ≢ drop 32 report
+  pub meet :
+      hash.pair key (string_at report 0) (string_at report 1)
+      ≡ hash.pair key (string_at report 2) (string_at report 3)
 
--- the answer to a record with leaf number i and the report are the numbers and the report of what is to be found first
-abbrev pub ShowsFirst : Hash → Code → Signing → List ℕ → List ℕ → ℕ → Result (ℕ × ℕ × ℕ) Refusal → List ℕ → Type 0
-ShowsFirst hash code s stamp bytes i r report =
-    (v : Verdict) × Found hash code (traced_by s stamp i bytes) v × (r ≡ Ok (verdict_numbers i v)) × (report ≡ verdict_report v)
+-- a report of two different strings that step to one
+pub record StepBreak (hash : Hash) (key report : List ℕ) : Type 0 where
+  pub differ : string_at report 0 ≢ string_at report 1
+  pub meet : hash.step key (string_at report 0) ≡ hash.step key (string_at report 1)
 
--- of a history w that leads to the signer s, which answers r to a stamp and a record and leaves this report
-pub record Promise (hash : Hash) (code : Code) (w : History) (s : Signing) (stamp bytes : List ℕ) (r : Result (ℕ × ℕ × ℕ) Refusal) (report : List ℕ) : Type 0 where
+-- a report of the signer's own string of chain k of leaf i at height e, the stamp's digit: the
+-- record shows it, and the history did not reveal it
+pub record Unrevealed (hash : Hash) (code : Code) (w : History) (s : Signing)
+    (stamp bytes : List ℕ) (i : ℕ) (report : List ℕ) (k e : ℕ) : Type 0 where
+  pub chain : k < code.count
+  pub height : e ≡ code.digit stamp k
+  pub own : string_at report 0 ≡ chain_string hash s.origin i k e
+  pub shown : chain_in (row_of bytes) k ≡ string_at report 0
+  pub hidden : Revealed code w i k e → ⊥
+
+-- trace shows where the hash gave way, for a record with leaf number i: its answer r is the verdict
+-- and two numbers, and its report shows the break
+pub data Breaks (hash : Hash) (code : Code) (w : History) (s : Signing) (stamp bytes : List ℕ)
+    (i : ℕ) (r : Traces) (report : List ℕ) : Type 0 where
+  pair_break : (a b : ℕ) → r ≡ Ok (1, a, b) → PairBreak hash s.origin.hash_key report →
+      Breaks hash code w s stamp bytes i r report
+  step_break : (k e : ℕ) → r ≡ Ok (2, k, e) → StepBreak hash s.origin.hash_key report →
+      Breaks hash code w s stamp bytes i r report
+  unrevealed : (k e : ℕ) → r ≡ Ok (3, k, e) →
+      Unrevealed hash code w s stamp bytes i report k e →
+      Breaks hash code w s stamp bytes i r report
+
+-- the answer to a record with leaf number i and the report are those of the verdict v, which is on
+-- what is to be found first
+pub record ShowsFirst (hash : Hash) (code : Code) (s : Signing) (stamp bytes : List ℕ) (i : ℕ)
+    (r : Traces) (report : List ℕ) (v : Verdict) : Type 0 where
+  pub first : Found hash code (traced_by s stamp i bytes) v
+  pub answers : r ≡ Ok (verdict_numbers i v)
+  pub reports : report ≡ verdict_report v
+
+-- of a history w that leads to the signer s, which answers r to a stamp and a record and leaves this
+-- report
+pub record Promise (hash : Hash) (code : Code) (w : History) (s : Signing) (stamp bytes : List ℕ)
+    (r : Traces) (report : List ℕ) : Type 0 where
   pub once : Once w
   -- verify accepts each record issued, with its stamp, as the leaf it was issued for
-  pub accepted : (i : ℕ) (issued m : List ℕ) → Issued w i issued m → Accepts hash code s m issued i
+  pub accepted : (i : ℕ) (issued m : List ℕ) → Issued w i issued m →
+      Accepts hash code s m issued i
   -- of a record and a stamp that verify accepts as leaf i, the verdict is 0 exactly when the
   -- history issued this record as leaf i for this stamp, and then trace says "ours": it answers
   -- 0, i and 0, and leaves a report of zeros
@@ -57,8 +104,13 @@ pub record Promise (hash : Hash) (code : Code) (w : History) (s : Signing) (stam
       Issued w i bytes stamp × SaysOurs i r report
   pub issued : (i : ℕ) → Issued w i bytes stamp → SaysOurs i r report
   -- otherwise it shows a break: what is to be found first, and what that means
-  pub broken : (i : ℕ) → Accepts hash code s stamp bytes i → ((j : ℕ) → Issued w j bytes stamp → ⊥) → ShowsFirst hash code s stamp bytes i r report × Breaks hash code w s stamp bytes i r report
+  pub broken : (i : ℕ) → Accepts hash code s stamp bytes i →
+      ((j : ℕ) → Issued w j bytes stamp → ⊥) →
+      ((v : Verdict) × ShowsFirst hash code s stamp bytes i r report v)
+      × Breaks hash code w s stamp bytes i r report
 
 -- the promise, for every history that leads to this signer, in service or retired
-abbrev pub Promised : Hash → Code → Signing → List ℕ → List ℕ → Result (ℕ × ℕ × ℕ) Refusal → List ℕ → Type 0
-Promised hash code s stamp bytes r report = (o : Origin) (w : History) (x : State) → IsSigner x s → Lived hash code o w x → Promise hash code w s stamp bytes r report
+abbrev pub Promised : Hash → Code → Signing → List ℕ → List ℕ → Traces → List ℕ → Type 0
+Promised hash code s stamp bytes r report =
+    (o : Origin) (w : History) (x : State) → IsSigner x s → Lived hash code o w x →
+    Promise hash code w s stamp bytes r report

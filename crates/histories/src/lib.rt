@@ -1,2 +1,2 @@
-//! What the calls of a signer answer and leave, the histories that they make, and what holds of every history.
+//! The histories that the calls of a signer make, and what holds of every history.
 #![tactic(auto)]

@@ -4,17 +4,20 @@ use Rattle.std.proofs.Math.ListN.{drop_of_length-le}
 use Rattle.std.proofs.lemmas.Bool.{false≢true}
 use Rattle.std.proofs.lemmas.Bool.Decides.{Decides-eqb, Decides-not, Decides-or, Decides-ltb}
 use Rattle.tree.specs.Meaning.{Hash, Code}
-use Rattle.verifier.specs.Causes.{Cause, cause, Refuses}
-use Rattle.verifier.specs.Conditions.{WrongHeight, WrongKeyLength, Opening, OpenedWith}
-use Rattle.verifier.specs.Keys.{Key}
-use Rattle.verifier.specs.Records.{key_length, hash_number_of, code_number_of, height_of, spare_of}
-use Rattle.verifier.specs.Refusals.{refusal_number}
-use Rattle.verifier.specs.Rules.{after, foreign, bad_height, header_rule, open_rule, verify_rule}
-use Rattle.verifier.specs.declared.refusal.Refusal.{Refusal}
-use Rattle.verifier.specs.declared.refusal.Refusal.TheVariants.{Length, Parameters, Height, Layout}
-use Rattle.verifier.proofs.Causing.{refuses-none, refuses-more, refuses-after}
-use Rattle.verifier.proofs.Facts.{open-to}
-use Rattle.verifier.proofs.Refusing.{header-refuses, verify-refuses}
+use Rattle.records.specs.Causes.{Cause, cause, Refuses}
+use Rattle.records.specs.Conditions.{WrongHeight, WrongKeyLength}
+use Rattle.verifier.specs.Conditions.{Opening, OpenedWith}
+use Rattle.records.specs.Keys.{Key}
+use Rattle.records.specs.Records.{key_length, hash_number_of, code_number_of, height_of, spare_of}
+use Rattle.records.specs.Refusals.{refusal_number}
+use Rattle.records.specs.Rules.{after, foreign, bad_height, header_rule, open_rule}
+use Rattle.verifier.specs.Rules.{verify_rule}
+use Rattle.records.specs.declared.refusal.Refusal.{Refusal}
+use Rattle.records.specs.declared.refusal.Refusal.TheVariants.{Length, Parameters, Height, Layout}
+use Rattle.records.proofs.Causing.{refuses-none, refuses-more, refuses-after}
+use Rattle.records.proofs.Facts.{open-to}
+use Rattle.records.proofs.Refusing.{header-refuses}
+use Rattle.verifier.proofs.Refusing.{verify-refuses}
 use Rattle.schemes.specs.Names.{hash_named, code_named, scheme_numbered}
 use Rattle.schemes.specs.declared.names.HashName.{HashName}
 use Rattle.schemes.specs.declared.names.CodeName.{CodeName}

@@ -1,12 +1,13 @@
 -- The report of an input, and that there is no other.
 use Rattle.std.proofs.Common.{◌≡◌, ℕ, List, Ok, Err, Result, sym, ap, ◌∙◌, subst}
 use Rattle.tree.specs.Meaning.{Hash, Code}
-use Rattle.verifier.specs.Keys.{Key}
-use Rattle.verifier.specs.Records.{hash_number_of, code_number_of}
-use Rattle.verifier.specs.Rules.{header_rule, verify_rule}
+use Rattle.records.specs.Keys.{Key}
+use Rattle.records.specs.Records.{hash_number_of, code_number_of}
+use Rattle.records.specs.Rules.{header_rule}
+use Rattle.verifier.specs.Rules.{verify_rule}
 use Rattle.verifier.specs.Views.{key_of}
 use Rattle.verifier.specs.declared.key.OpenedKey.{OpenedKey}
-use Rattle.verifier.specs.declared.refusal.Refusal.{Refusal}
+use Rattle.records.specs.declared.refusal.Refusal.{Refusal}
 use Rattle.schemes.specs.Names.{hash_named, code_named, scheme_numbered}
 use Rattle.schemes.specs.declared.scheme.Scheme.{Scheme}
 use Rattle.schemes.specs.declared.unknown.UnknownScheme.{UnknownScheme}

@@ -2,13 +2,15 @@
 use Rattle.std.specs.Prelude.{◌≡◌, ℕ, ◌<◌, List, [], ◌∷◌, ◌++◌}
 use Rattle.std.specs.Prelude.{length, take, drop, IsErr, Ok, Result}
 use Rattle.tree.specs.Meaning.{Hash, Code}
-use Rattle.verifier.specs.Causes.{Cause, cause, Refuses}
-use Rattle.verifier.specs.Conditions.{WrongHeight, WrongKeyLength, Opening}
-use Rattle.verifier.specs.Conditions.{header_causes, verify_causes}
-use Rattle.verifier.specs.Keys.{Key}
-use Rattle.verifier.specs.Records.{hash_number_of, code_number_of}
-use Rattle.verifier.specs.Rules.{open_rule}
-use Rattle.verifier.specs.declared.refusal.Refusal.{Refusal}
+use Rattle.records.specs.Causes.{Cause, cause, Refuses}
+use Rattle.records.specs.Conditions.{WrongHeight, WrongKeyLength}
+use Rattle.verifier.specs.Conditions.{Opening}
+use Rattle.records.specs.Conditions.{header_causes}
+use Rattle.verifier.specs.Conditions.{verify_causes}
+use Rattle.records.specs.Keys.{Key}
+use Rattle.records.specs.Records.{hash_number_of, code_number_of}
+use Rattle.records.specs.Rules.{open_rule}
+use Rattle.records.specs.declared.refusal.Refusal.{Refusal}
 use Rattle.schemes.specs.Names.{hash_named, code_named, UnknownNumbers}
 use Rattle.schemes.specs.declared.names.HashName.{HashName}
 use Rattle.schemes.specs.declared.names.CodeName.{CodeName}

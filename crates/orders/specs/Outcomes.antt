@@ -1,8 +1,8 @@
 -- Orders one after the other: a stamp and a release record each.
 use Rattle.std.specs.Prelude.{ℕ, zero, suc, ◌<◌, ◌≤◌, Bool, if◌then◌else◌, ◌&&◌, List, [], ◌∷◌, length, take, drop, Err, Result, ◌==◌, nat_le, nat_lt}
-use Rattle.verifier.specs.Records.{field}
-use Rattle.verifier.specs.declared.refusal.Refusal.{Refusal}
-use Rattle.verifier.specs.declared.refusal.Refusal.TheVariants.{Length}
+use Rattle.records.specs.Records.{field}
+use Rattle.records.specs.declared.refusal.Refusal.{Refusal}
+use Rattle.records.specs.declared.refusal.Refusal.TheVariants.{Length}
 
 -- at least 10 bytes are left, the length field is at least 10, and all the bytes that it names are there
 abbrev pub whole : List ℕ → Bool

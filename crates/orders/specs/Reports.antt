@@ -1,11 +1,12 @@
 -- What is reported of a key record and the orders that follow it.
 use Rattle.std.specs.Prelude.{◌≡◌, ℕ, List, [], Ok, Err, Result}
 use Rattle.tree.specs.Meaning.{Hash, Code}
-use Rattle.verifier.specs.Keys.{Key}
-use Rattle.verifier.specs.Records.{hash_number_of, code_number_of}
-use Rattle.verifier.specs.Rules.{header_rule, open_rule, verify_rule}
-use Rattle.verifier.specs.declared.refusal.Refusal.{Refusal}
-use Rattle.verifier.specs.declared.refusal.Refusal.TheVariants.{Parameters}
+use Rattle.records.specs.Keys.{Key}
+use Rattle.records.specs.Records.{hash_number_of, code_number_of}
+use Rattle.records.specs.Rules.{header_rule, open_rule}
+use Rattle.verifier.specs.Rules.{verify_rule}
+use Rattle.records.specs.declared.refusal.Refusal.{Refusal}
+use Rattle.records.specs.declared.refusal.Refusal.TheVariants.{Parameters}
 use Rattle.schemes.specs.Names.{hash_named, code_named, scheme_numbered}
 use Rattle.schemes.specs.declared.scheme.Scheme.{Scheme}
 use Rattle.schemes.specs.declared.unknown.UnknownScheme.{UnknownScheme}

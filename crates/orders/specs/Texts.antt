@@ -2,8 +2,8 @@
 use Rattle.std.specs.Prelude.{ℕ, suc, List, [], ◌∷◌, ◌++◌, Ok, Err, Result, codes}
 use Rattle.std.specs.Fmt.{decimal}
 use Rattle.std.specs.List.{flat_map}
-use Rattle.verifier.specs.Refusals.{refusal_number}
-use Rattle.verifier.specs.declared.refusal.Refusal.{Refusal}
+use Rattle.records.specs.Refusals.{refusal_number}
+use Rattle.records.specs.declared.refusal.Refusal.{Refusal}
 use Rattle.orders.specs.Reports.{Reported}
 use Rattle.orders.specs.declared.key.KeySummary.{KeySummary}
 use Rattle.orders.specs.declared.order.Order.{Order}

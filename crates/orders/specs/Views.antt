@@ -3,7 +3,7 @@ use Rattle.std.specs.Prelude.{ℕ, suc, List, [], Ok, Err, Result}
 use Rattle.verifier.specs.Rules.{verify_rule}
 use Rattle.verifier.specs.Views.{key_of}
 use Rattle.verifier.specs.declared.key.OpenedKey.{OpenedKey}
-use Rattle.verifier.specs.declared.refusal.Refusal.{Refusal}
+use Rattle.records.specs.declared.refusal.Refusal.{Refusal}
 use Rattle.schemes.specs.Names.{hash_named, code_named}
 use Rattle.schemes.specs.declared.scheme.Scheme.{Scheme}
 use Rattle.orders.specs.Outcomes.{answers_to}

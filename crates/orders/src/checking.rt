@@ -7,7 +7,7 @@ ghost use Rattle.orders.specs.Conditions.{RefusesByLists};
 ghost use Rattle.orders.specs.Reading.{Stopped, ReadUpTo};
 ghost use Rattle.orders.specs.Reports.{Reported, CheckedBy, Unknown, Reports, most_read};
 ghost use Rattle.orders.specs.Views.{reported};
-ghost use Rattle.verifier.specs.Rules.{header_rule};
+ghost use Rattle.records.specs.Rules.{header_rule};
 
 use crate::reading::fill;
 use crate::records::split_record;
@@ -26,7 +26,7 @@ struct Opening<'a> {
 }
 
 impl<'a> Task for Opening<'a> {
-    ghost use Rattle.verifier.specs.Rules.{open_rule};
+    ghost use Rattle.records.specs.Rules.{open_rule};
     ghost use Rattle.orders.specs.Openings.{Opens};
 
     type Output = Result<(OpenedKey<'a>, KeySummary), Refusal>;

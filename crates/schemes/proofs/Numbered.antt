@@ -1,7 +1,7 @@
 -- The names that numbers have.
 use Rattle.std.proofs.Common.{◌≡◌, ℕ, ◌⊎◌, inl, inr, ⊎_elim, ◌↔◌, Ok, Err, is_err, IsErr, refl, sym, ap, ◌∙◌, Result, if◌then◌else◌, ◌==◌}
 use Rattle.std.proofs.lemmas.Bool.{false≢true, cases_eq, eq-eqb, ne_eqb}
-use Rattle.verifier.specs.Rules.{after}
+use Rattle.records.specs.Rules.{after}
 use Rattle.schemes.specs.Names.{hash_named, code_named, hash_name, code_name, scheme_numbered, no_such, UnknownNumbers}
 use Rattle.schemes.specs.declared.names.HashName.{HashName}
 use Rattle.schemes.specs.declared.names.HashName.TheVariants.{Sha256, Aes128, Practice}

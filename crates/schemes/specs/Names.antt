@@ -1,7 +1,7 @@
 -- What the names of hashes and codes mean, and their numbers.
 use Rattle.std.specs.Prelude.{◌≢◌, ◌⊎◌, ℕ, if◌then◌else◌, Ok, Err, Result, ◌==◌}
 use Rattle.tree.specs.Meaning.{Hash, Code}
-use Rattle.verifier.specs.Rules.{after}
+use Rattle.records.specs.Rules.{after}
 use Rattle.schemes.specs.Known.{sha, aes, practice, lamport_diffie_code, winternitz2_code, winternitz4_code}
 use Rattle.schemes.specs.declared.names.HashName.{HashName}
 use Rattle.schemes.specs.declared.names.HashName.TheVariants.{Sha256, Aes128, Practice}

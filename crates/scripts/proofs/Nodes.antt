@@ -2,8 +2,8 @@
 use Rattle.std.proofs.Common.{◌≡◌, ℕ, ◌+◌, ◌<◌, List, [], ◌++◌, length, set, take, sym, ap, ◌∙◌, add-one, Option, refl}
 use Rattle.std.proofs.lemmas.List.{flat_map_more, take_more_set}
 use Rattle.std.specs.List.{flat_map}
-use Rattle.histories.specs.Rules.{held_rule}
-use Rattle.histories.specs.States.{Making}
+use Rattle.rules.specs.Rules.{held_rule}
+use Rattle.rules.specs.States.{Making}
 use Rattle.scripts.specs.Replies.{held_in, held_one, held_below}
 use Rattle.scripts.specs.declared.answer.Node.{Node}
 

@@ -5,11 +5,11 @@ use Rattle.codes.specs.declared.Code as code_trait
 use Rattle.hashes.specs.declared.ChainHash as chain_hash
 use Rattle.hashes.specs.declared.TreeHash as tree_hash
 use Rattle.histories.specs.Histories.{State, growing, serving, retired}
-use Rattle.histories.specs.Rules as signer_rules
-use Rattle.histories.specs.States.{Making, Signing}
+use Rattle.rules.specs.Rules as signer_rules
+use Rattle.rules.specs.States.{Making, Signing}
 use Rattle.signer.specs.Views.{making_of, signing_of, signing_of_retired}
 use Rattle.tree.specs.Meaning.{Hash, Code}
-use Rattle.verifier.specs.declared.refusal.Refusal.{Refusal}
+use Rattle.records.specs.declared.refusal.Refusal.{Refusal}
 use Rattle.scripts.specs.Calls.{Said, grow, nodes, finish, key, sign, skip, retire, trace}
 use Rattle.scripts.specs.declared.answer.Answer.{Answer}
 use Rattle.scripts.specs.declared.answer.Answer.TheVariants.{Begun, Grown, Nodes, Finished, Key, Signed, Next}
@@ -141,9 +141,9 @@ module _ (hash : Hash) (code : Code) where
 
   -- the state after it
   abbrev pub leaves : State → Said → State
-  leaves (growing m) grow = growing (signer_rules.grow_leaves hash code m)
+  leaves (growing m) grow = growing (signer_rules.grow_state hash code m)
   leaves (growing m) nodes = growing m
-  leaves (growing m) finish = serving (signer_rules.finish_rule hash code m)
+  leaves (growing m) finish = serving (signer_rules.finish_state hash code m)
   leaves (growing m) (key room) = growing m
   leaves (growing m) (sign stamp room) = growing m
   leaves (growing m) (skip leaf) = growing m

@@ -3,7 +3,7 @@ use Rattle.std.specs.Prelude.{ℕ, List, ◌++◌, codes}
 use Rattle.std.specs.Fmt.{decimal}
 use Rattle.std.specs.List.{flat_map}
 use Rattle.strings.specs.Hex.{hex_text}
-use Rattle.verifier.specs.Refusals.{refusal_number}
+use Rattle.records.specs.Refusals.{refusal_number}
 use Rattle.scripts.specs.Replies.{Held, Told}
 use Rattle.scripts.specs.Replies.{begun, grown, held, finished, keyed, signed, next, gone}
 use Rattle.scripts.specs.Replies.{verdict, refused, unknown_scheme, not_now, no_call}

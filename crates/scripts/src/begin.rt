@@ -2,7 +2,7 @@
 
 ghost use Rattle.std.specs.Prelude.{◌≡◌};
 ghost use Rattle.scripts.specs.Begins.{start_of, start_rule, StartRefuses};
-ghost use Rattle.verifier.specs.Rules.{seen};
+ghost use Rattle.records.specs.Rules.{seen};
 
 use schemes::{Scheme, UnknownScheme};
 use signer::Plan;

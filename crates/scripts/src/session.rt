@@ -2,7 +2,7 @@
 
 ghost use Rattle.std.specs.Prelude.{◌≡◌};
 ghost use Rattle.histories.specs.Histories.{growing};
-ghost use Rattle.histories.specs.Rules.{begin_rule};
+ghost use Rattle.rules.specs.Rules.{begin_rule};
 ghost use Rattle.scripts.specs.Calls.{said};
 ghost use Rattle.scripts.specs.Replies.{told, state_of, reply, leaves};
 ghost use Rattle.signer.specs.Views.{height_of_plan};

@@ -3,8 +3,8 @@ use Rattle.std.proofs.Common.{◌≡◌, ℕ, suc, ◌+◌, ◌-◌, ◌<◌, Li
 use Rattle.growth.specs.Grown.{with_leaf}
 use Rattle.growth.specs.declared.origin.Origin.{Origin}
 use Rattle.tree.specs.Meaning.{Hash, Code}
-use Rattle.histories.specs.Rules.{leaves_more}
-use Rattle.histories.specs.States.{Making}
+use Rattle.rules.specs.Rules.{leaves_more}
+use Rattle.rules.specs.States.{Making}
 
 module _ (hash : Hash) (code : Code) where
   pub leaves_none : (m : Making) → leaves_more hash code 0 m ≡ m

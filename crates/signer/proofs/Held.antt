@@ -9,7 +9,7 @@ use Rattle.growth.proofs.Strings.{Strings}
 use Rattle.strings.specs.Strings.{Str}
 use Rattle.strings.proofs.Laws.{str-from}
 use Rattle.tree.specs.Meaning.{Hash}
-use Rattle.histories.specs.Histories.{Begun}
+use Rattle.rules.specs.States.{Begun}
 use Rattle.signer.specs.declared.signer.Signer.{Signer}
 
 -- arrays of bytes, as long as those of an origin, are strings

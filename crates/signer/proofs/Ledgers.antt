@@ -1,7 +1,7 @@
 -- The rows of a ledger from the next leaf on are empty.
 use Rattle.std.proofs.Common.{◌≡◌, ℕ, ◌+◌, ◌≤◌, true, List, get_or, set, replicate, Some, None, Option, ap, ◌∙◌, arith}
 use Rattle.std.proofs.lemmas.List.{get_or-set_other}
-use Rattle.histories.specs.States.{empty_row}
+use Rattle.rules.specs.States.{empty_row}
 use Rattle.histories.proofs.Sound.{none_at}
 
 pub empty-fresh : (rows : List (Option (List ℕ))) (n i : ℕ) → rows ≡ replicate n None → empty_row (get_or rows i None) ≡ true

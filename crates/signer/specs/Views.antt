@@ -3,7 +3,7 @@ use Rattle.std.specs.Prelude.{ℕ}
 use Rattle.codes.specs.declared.Code as code_trait
 use Rattle.hashes.specs.declared.ChainHash as chain_hash
 use Rattle.hashes.specs.declared.TreeHash as tree_hash
-use Rattle.histories.specs.States.{Making, Signing}
+use Rattle.rules.specs.States.{Making, Signing}
 use Rattle.signer.specs.declared.maker.Maker.{Maker}
 use Rattle.signer.specs.declared.plan.Plan.{Plan}
 use Rattle.signer.specs.declared.retired.Retired.{Retired}

@@ -4,8 +4,8 @@ ghost use Rattle.std.specs.Prelude.{◌≡◌, ◌+◌, ◌*◌, ◌^◌, ◌<�
 ghost use Rattle.growth.specs.Shown.{shown_row};
 ghost use Rattle.tree.specs.Meaning.{hash_of, code_of};
 ghost use Rattle.strings.specs.Strings.{little_endian};
-ghost use Rattle.verifier.specs.Kinds.{kind_number};
-ghost use Rattle.verifier.specs.Records.{framed, release_length, release_bytes};
+ghost use Rattle.records.specs.Kinds.{kind_number};
+ghost use Rattle.records.specs.Records.{framed, release_length, release_bytes};
 
 use codes::Code;
 use growth::Tree;

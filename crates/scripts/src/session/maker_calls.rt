@@ -3,7 +3,7 @@
 ghost use Rattle.std.specs.Prelude.{◌≡◌};
 ghost use Rattle.std.specs.List.{flat_map};
 ghost use Rattle.histories.specs.Histories.{growing};
-ghost use Rattle.histories.specs.Rules.{grow_answer, grow_leaves, held_rule};
+ghost use Rattle.rules.specs.Rules.{grow_answer, grow_state, held_rule};
 ghost use Rattle.scripts.specs.Calls.{said};
 ghost use Rattle.scripts.specs.Replies.{told, grown, answered, held_in, held_one, held_nodes, state_of, reply, leaves};
 ghost use Rattle.signer.specs.Views.{making_of};
@@ -39,7 +39,7 @@ fn held_nodes<H: TreeHash, C: Code>(maker: &Maker<H, C>) -> [Option<Node>; 9]
 
 fn grow<H: TreeHash, C: Code>(maker: &mut Maker<H, C>) -> Answer<'static>
     ensures answer { told result ≡ answered grown (grow_answer (making_of maker.old)) }
-    ensures state { making_of maker.new ≡ grow_leaves (hash_of H.TreeHash)
+    ensures state { making_of maker.new ≡ grow_state (hash_of H.TreeHash)
         (code_of C.Code) (making_of maker.old) }
 {
     let mut work = [0; 4096];

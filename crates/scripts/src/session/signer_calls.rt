@@ -2,7 +2,7 @@
 
 ghost use Rattle.std.specs.Prelude.{◌≡◌};
 ghost use Rattle.histories.specs.Histories.{serving};
-ghost use Rattle.histories.specs.Rules.{sign_state, skip_answer, skip_state};
+ghost use Rattle.rules.specs.Rules.{sign_state, skip_answer, skip_state};
 ghost use Rattle.scripts.specs.Calls.{said};
 ghost use Rattle.scripts.specs.Replies.{told, next, answered, output, sign_reply, state_of, reply, leaves};
 ghost use Rattle.signer.specs.Views.{signing_of};

@@ -2,12 +2,12 @@
 
 ghost use Rattle.std.specs.Prelude.{◌≡◌, ℕ, List, [], replicate, Some};
 ghost use Rattle.growth.specs.Grown.{node_at};
-ghost use Rattle.histories.specs.Conditions.{grow_causes};
+ghost use Rattle.rules.specs.Conditions.{grow_causes};
 ghost use Rattle.histories.specs.Histories.{growing, serving, grow, finish, Lived, Continues};
-ghost use Rattle.histories.specs.Rules.{begin_rule, grow_answer, grow_leaves, held_rule, finish_rule};
+ghost use Rattle.rules.specs.Rules.{begin_rule, grow_answer, grow_state, held_rule, finish_state};
 ghost use Rattle.signer.specs.Views.{height_of_plan, making_of, signing_of};
 ghost use Rattle.tree.specs.Meaning.{hash_of, code_of};
-ghost use Rattle.verifier.specs.Causes.{Refuses};
+ghost use Rattle.records.specs.Causes.{Refuses};
 
 use crate::ledger::Ledger;
 use crate::scratch::Scratch;
@@ -47,7 +47,7 @@ impl<H: TreeHash, C: Code> Maker<H, C> {
     pub fn grow(&mut self, work: &mut [u8; 4096]) -> Result<u16, Refusal>
         ensures answer { result ≡ grow_answer (making_of self.old) }
         ensures refuses { Refuses (grow_causes (making_of self.old)) result }
-        ensures state { making_of self.new ≡ grow_leaves (hash_of H.TreeHash)
+        ensures state { making_of self.new ≡ grow_state (hash_of H.TreeHash)
             (code_of C.Code) (making_of self.old) }
         ensures lived { Continues (hash_of H.TreeHash) (code_of C.Code)
             (growing (making_of self.old)) (grow result) (growing (making_of self.new)) }
@@ -87,7 +87,7 @@ impl<H: TreeHash, C: Code> Maker<H, C> {
 
     /// Grows whatever leaves are lacking, and puts the key into service. The work buffer is zero after.
     pub fn finish(self, work: &mut [u8; 4096]) -> Signer<H, C>
-        ensures state { signing_of result ≡ finish_rule (hash_of H.TreeHash)
+        ensures state { signing_of result ≡ finish_state (hash_of H.TreeHash)
             (code_of C.Code) (making_of self) }
         ensures rooted { (signing_of result).root ≡ node_at (hash_of H.TreeHash)
             (code_of C.Code) (signing_of result).origin 0 0 }

@@ -1,11 +1,11 @@
 //! Planning a key.
 
 ghost use Rattle.std.specs.Prelude.{◌≡◌};
-ghost use Rattle.histories.specs.Conditions.{plan_causes};
-ghost use Rattle.histories.specs.Rules.{plan_rule};
+ghost use Rattle.rules.specs.Conditions.{plan_causes};
+ghost use Rattle.rules.specs.Rules.{plan_rule};
 ghost use Rattle.signer.specs.Views.{height_of_plan};
-ghost use Rattle.verifier.specs.Causes.{Refuses};
-ghost use Rattle.verifier.specs.Rules.{seen};
+ghost use Rattle.records.specs.Causes.{Refuses};
+ghost use Rattle.records.specs.Rules.{seen};
 
 use crate::Plan;
 use verifier::Refusal;

@@ -1,12 +1,12 @@
 //! The calls of a key in service.
 
 ghost use Rattle.std.specs.Prelude.{◌≡◌, ◌^◌, ◌<◌, replicate};
-ghost use Rattle.histories.specs.Conditions.{sign_causes, skip_causes};
+ghost use Rattle.rules.specs.Conditions.{sign_causes, skip_causes};
 ghost use Rattle.histories.specs.Histories.{serving, retired, sign, skip, retire, HasLived, Continues};
-ghost use Rattle.histories.specs.Rules.{Accepts, release_record, sign_answer, sign_state, sign_output, skip_answer, skip_state};
+ghost use Rattle.rules.specs.Rules.{Accepts, release_record, sign_answer, sign_state, sign_output, skip_answer, skip_state};
 ghost use Rattle.signer.specs.Views.{signing_of, signing_of_retired};
 ghost use Rattle.tree.specs.Meaning.{hash_of, code_of};
-ghost use Rattle.verifier.specs.Causes.{Refuses};
+ghost use Rattle.records.specs.Causes.{Refuses};
 
 use crate::records::write_release;
 use crate::scratch::Scratch;

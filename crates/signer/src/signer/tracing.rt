@@ -1,14 +1,14 @@
 //! Key records and traces, in service and out of it.
 
 ghost use Rattle.std.specs.Prelude.{◌≡◌, replicate, Ok};
-ghost use Rattle.histories.specs.Conditions.{key_causes, trace_causes};
+ghost use Rattle.rules.specs.Conditions.{key_causes, trace_causes};
 ghost use Rattle.histories.specs.Histories.{State, serving, IsSigner, key, trace, HasLived, Continues};
 ghost use Rattle.histories.specs.Promise.{Promised};
-ghost use Rattle.histories.specs.Rules.{key_record, own_key, key_answer, key_output, trace_answer, trace_report, Finds};
+ghost use Rattle.rules.specs.Rules.{key_record, own_key, key_answer, key_output, trace_answer, trace_report, Finds};
 ghost use Rattle.signer.specs.Views.{signing_of};
 ghost use Rattle.tree.specs.Meaning.{hash_of, code_of};
-ghost use Rattle.verifier.specs.Causes.{Refuses};
-ghost use Rattle.verifier.specs.Rules.{open_rule};
+ghost use Rattle.records.specs.Causes.{Refuses};
+ghost use Rattle.records.specs.Rules.{open_rule};
 
 use crate::Signer;
 use crate::records::write_key;

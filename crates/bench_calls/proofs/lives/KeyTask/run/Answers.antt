@@ -1,5 +1,5 @@
 use Rattle.std.proofs.Common.{ℕ, List, sym, refl, ap, ◌∙◌}
-use Rattle.histories.specs.Rules.{key_output}
+use Rattle.rules.specs.Rules.{key_output}
 use Rattle.signer.specs.Views.{signing_of}
 use Rattle.tree.proofs.Laws.{raise-none, raise-more}
 use Rattle.tree.specs.Meaning.{hash_by, code_of}

@@ -1,5 +1,5 @@
 use Rattle.schemes.specs.Tasks.{Wrote}
-use Rattle.histories.specs.Rules.{key_output}
+use Rattle.rules.specs.Rules.{key_output}
 use Rattle.signer.specs.Views.{signing_of}
 use Rattle.tree.specs.Meaning.{hash_by, code_of}
 use Rattle.tree.specs.Nodes.{raise}

@@ -2,8 +2,8 @@ use Rattle.std.proofs.Common.{◌≡◌, ℕ, ◌<◌, [], get_or, replicate, ap
 use Rattle.growth.proofs.Trees.{holds-none}
 use Rattle.growth.specs.declared.origin.Origin.{Origin}
 use Rattle.histories.specs.Histories.{growing, Lived}
-use Rattle.histories.specs.Rules.{begin_rule}
-use Rattle.histories.specs.States.{Making}
+use Rattle.rules.specs.Rules.{begin_rule}
+use Rattle.rules.specs.States.{Making}
 use Rattle.histories.proofs.Continuing.{begin-lives}
 use Rattle.tree.specs.Meaning.{hash_by, code_of}
 use Rattle.signer.specs.Views.{height_of_plan}

@@ -1,6 +1,6 @@
 use Rattle.std.proofs.Common.{◌≡◌, ◌-◌, ◌^◌, ◌≤◌, length}
 use Rattle.growth.specs.Grown.{Holds}
-use Rattle.histories.specs.Rules.{leaves_more}
+use Rattle.rules.specs.Rules.{leaves_more}
 use Rattle.tree.specs.Meaning.{hash_by, code_of}
 use Rattle.signer.proofs.maker.Maker.finish.Given as goal
 

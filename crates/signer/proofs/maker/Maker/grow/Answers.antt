@@ -1,11 +1,11 @@
 use Rattle.std.proofs.Common.{◌≡◌, ◌+◌, Ok, Err, rules}
 use Rattle.histories.specs.Histories.{growing, grow, Continues}
-use Rattle.histories.specs.Rules.{grow_answer, grow_leaves}
-use Rattle.histories.specs.States.{Making}
+use Rattle.rules.specs.Rules.{grow_answer, grow_state}
+use Rattle.rules.specs.States.{Making}
 use Rattle.histories.proofs.Continuing.{grow-continues, lives-on}
-use Rattle.histories.proofs.Refusing.{grow-refuses}
+use Rattle.rules.proofs.Refusing.{grow-refuses}
 use Rattle.tree.specs.Meaning.{hash_by, code_of}
-use Rattle.verifier.specs.declared.refusal.Refusal.TheVariants.{Grown}
+use Rattle.records.specs.declared.refusal.Refusal.TheVariants.{Grown}
 use Rattle.signer.specs.Views.{making_of}
 use Rattle.signer.proofs.maker.Maker.grow.Given as given
 use Rattle.signer.proofs.maker.Maker.grow.Goals as goal
@@ -17,7 +17,7 @@ returns-then-self g c =
     let code = code_of g.C.Code in
     let m = making_of c.args.self.now in
     let answer : Err Grown ≡ grow_answer m = search rules in
-    let state : m ≡ grow_leaves hash code m = search rules in
+    let state : m ≡ grow_state hash code m = search rules in
     record {
       answer = answer;
       refuses = grow-refuses m (Err Grown) answer;
@@ -36,7 +36,7 @@ module _ (g : given.Over) (c : After-add_leaf g) where
   answers : Ok (before.grown + 1) ≡ grow_answer before
   answers = search rules
 
-  leaves : later ≡ grow_leaves (hash_by g.H.ChainHash g.H.TreeHash) (code_of g.C.Code) before
+  leaves : later ≡ grow_state (hash_by g.H.ChainHash g.H.TreeHash) (code_of g.C.Code) before
   leaves = search rules
 
   continues : Continues (hash_by g.H.ChainHash g.H.TreeHash) (code_of g.C.Code) (growing before) (grow (Ok (before.grown + 1))) (growing later)

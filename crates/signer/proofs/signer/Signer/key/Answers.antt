@@ -1,18 +1,18 @@
 use Rattle.std.proofs.Common.{◌≡◌, ℕ, ◌+◌, ◌-◌, ◌*◌, List, length, take, Ok, Err, Result, arith, rules}
 use Rattle.std.proofs.lemmas.List.{length-take-le}
 use Rattle.tree.specs.Meaning.{Hash, Code, hash_by, code_of}
-use Rattle.verifier.specs.declared.refusal.Refusal.{Refusal}
-use Rattle.verifier.specs.declared.refusal.Refusal.TheVariants.{Output}
-use Rattle.verifier.specs.Rules.{open_rule}
-use Rattle.verifier.specs.Causes.{Refuses}
-use Rattle.histories.specs.Conditions.{key_causes}
+use Rattle.records.specs.declared.refusal.Refusal.{Refusal}
+use Rattle.records.specs.declared.refusal.Refusal.TheVariants.{Output}
+use Rattle.records.specs.Rules.{open_rule}
+use Rattle.records.specs.Causes.{Refuses}
+use Rattle.rules.specs.Conditions.{key_causes}
 use Rattle.histories.specs.Histories.{State, IsSigner, key, Continues}
-use Rattle.histories.specs.Rules.{key_size, key_record, own_key, key_answer, key_output}
-use Rattle.histories.specs.States.{Signing}
+use Rattle.rules.specs.Rules.{key_size, key_record, own_key, key_answer, key_output}
+use Rattle.rules.specs.States.{Signing}
 use Rattle.signer.specs.Views.{signing_of}
 use Rattle.histories.proofs.Continuing.{key-continues}
-use Rattle.histories.proofs.Refusing.{key-refuses}
-use Rattle.histories.proofs.Opening.{record-opens}
+use Rattle.rules.proofs.Refusing.{key-refuses}
+use Rattle.rules.proofs.Opening.{record-opens}
 use Rattle.signer.proofs.signer.Signer.key.Given as given
 use Rattle.signer.proofs.signer.Signer.key.Goals as goal
 use Rattle.signer.proofs.signer.Signer.key.Goals.{Start}

@@ -2,17 +2,17 @@ use Rattle.std.proofs.Common.{◌≡◌, ℕ, ◌+◌, ◌*◌, ◌%◌, ◌^◌
 use Rattle.std.proofs.lemmas.Nat.{one_shl}
 use Rattle.strings.proofs.Laws.{str-from}
 use Rattle.tree.specs.Meaning.{Hash, Code, hash_by, code_of}
-use Rattle.verifier.specs.declared.refusal.Refusal.{Refusal}
-use Rattle.verifier.specs.declared.refusal.Refusal.TheVariants.{Spent, Output}
-use Rattle.verifier.specs.Causes.{Refuses}
-use Rattle.histories.specs.Conditions.{sign_causes}
+use Rattle.records.specs.declared.refusal.Refusal.{Refusal}
+use Rattle.records.specs.declared.refusal.Refusal.TheVariants.{Spent, Output}
+use Rattle.records.specs.Causes.{Refuses}
+use Rattle.rules.specs.Conditions.{sign_causes}
 use Rattle.histories.specs.Histories.{serving, sign, Continues}
-use Rattle.histories.specs.Rules.{release_record, Accepts, sign_answer, sign_state, sign_output}
-use Rattle.histories.specs.States.{Signing}
+use Rattle.rules.specs.Rules.{release_record, Accepts, sign_answer, sign_state, sign_output}
+use Rattle.rules.specs.States.{Signing}
 use Rattle.signer.specs.Views.{signing_of}
-use Rattle.histories.proofs.Accepting.{accepting}
+use Rattle.rules.proofs.Accepting.{accepting}
 use Rattle.histories.proofs.Continuing.{sign-continues, lives-on}
-use Rattle.histories.proofs.Refusing.{sign-refuses}
+use Rattle.rules.proofs.Refusing.{sign-refuses}
 use Rattle.signer.proofs.Ledgers.{entered-fresh}
 use Rattle.signer.proofs.Held.{signer-strings}
 use Rattle.signer.proofs.signer.Signer.sign.Given as given

@@ -1,9 +1,9 @@
 use Rattle.std.proofs.Common.{◌≡◌, Ok, Err, rules}
-use Rattle.histories.specs.Rules.{skip_answer, skip_state}
+use Rattle.rules.specs.Rules.{skip_answer, skip_state}
 use Rattle.histories.proofs.Continuing.{skip-continues, lives-on}
-use Rattle.histories.proofs.Refusing.{skip-refuses}
+use Rattle.rules.proofs.Refusing.{skip-refuses}
 use Rattle.tree.specs.Meaning.{hash_by, code_of}
-use Rattle.verifier.specs.declared.refusal.Refusal.TheVariants.{Skip}
+use Rattle.records.specs.declared.refusal.Refusal.TheVariants.{Skip}
 use Rattle.signer.specs.Views.{signing_of}
 use Rattle.signer.proofs.signer.Signer.skip.Goals as goal
 

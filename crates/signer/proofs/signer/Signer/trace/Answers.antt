@@ -1,22 +1,22 @@
 use Rattle.std.proofs.Common.{◌≡◌, ℕ, List, get_or, Err, Result, sym, ap, ◌∙◌, subst, Fits, w8}
 use Rattle.std.proofs.lemmas.Result.{err_from_is_err_and}
-use Rattle.verifier.specs.Causes.{Refuses}
-use Rattle.histories.specs.Conditions.{trace_causes}
+use Rattle.records.specs.Causes.{Refuses}
+use Rattle.rules.specs.Conditions.{trace_causes}
 use Rattle.histories.specs.Histories.{State, serving, IsSigner, trace, HasLived, Continues}
 use Rattle.histories.specs.Promise.{Promise, Promised}
-use Rattle.histories.specs.Rules.{trace_answer, trace_report, Finds}
-use Rattle.histories.specs.States.{Signing}
+use Rattle.rules.specs.Rules.{trace_answer, trace_report, Finds}
+use Rattle.rules.specs.States.{Signing}
 use Rattle.histories.proofs.Continuing.{trace-continues}
-use Rattle.histories.proofs.Laws.{Laws}
-use Rattle.histories.proofs.Own.{own-reads}
-use Rattle.histories.proofs.Refusing.{trace-refuses}
+use Rattle.tree.specs.Laws.{Laws}
+use Rattle.rules.proofs.Own.{own-reads}
+use Rattle.rules.proofs.Refusing.{trace-refuses}
 use Rattle.histories.proofs.Promised.{promised}
-use Rattle.histories.proofs.Tracing.{ByRule, ReadsOwn, unread, misled, led}
+use Rattle.rules.proofs.Tracing.{ByRule, ReadsOwn, unread, misled, led}
 use Rattle.strings.proofs.Laws.{str-from}
 use Rattle.tree.specs.Meaning.{Hash, Code, hash_by, code_of}
-use Rattle.verifier.specs.Views.{shown_by}
-use Rattle.verifier.specs.declared.refusal.Refusal.{Refusal}
-use Rattle.verifier.proofs.Facts.{bytes-from}
+use Rattle.records.specs.Views.{shown_by}
+use Rattle.records.specs.declared.refusal.Refusal.{Refusal}
+use Rattle.records.proofs.Facts.{bytes-from}
 use Rattle.signer.specs.Views.{signing_of}
 use Rattle.signer.proofs.Held.{signer-strings}
 use Rattle.signer.proofs.signer.Signer.trace.Given as given

@@ -2,12 +2,12 @@
 use Rattle.std.proofs.Common.{◌≡◌, ℕ, ◌+◌, ◌*◌, ◌≤◌, List, length, take, Ok, arith}
 use Rattle.std.proofs.lemmas.List.{length-take-le}
 use Rattle.tree.specs.Meaning.{Hash, Code}
-use Rattle.verifier.specs.Reads.{KeyParts}
-use Rattle.verifier.specs.Rules.{open_rule}
-use Rattle.verifier.proofs.Facts.{open-from}
-use Rattle.verifier.proofs.Reading.{written-opens}
-use Rattle.histories.specs.Rules.{key_record, own_key}
-use Rattle.histories.specs.States.{Signing}
+use Rattle.records.specs.Reads.{KeyParts}
+use Rattle.records.specs.Rules.{open_rule}
+use Rattle.records.proofs.Facts.{open-from}
+use Rattle.records.proofs.Reading.{written-opens}
+use Rattle.rules.specs.Rules.{key_record, own_key}
+use Rattle.rules.specs.States.{Signing}
 
 module _ (hash : Hash) (code : Code) (s : Signing) where
   abbrev masks_of : List ℕ

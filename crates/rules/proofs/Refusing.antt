@@ -5,16 +5,17 @@ use Rattle.std.proofs.lemmas.Bool.Decides.{Decides-eqb, Decides-not, Decides-or,
 use Rattle.std.proofs.lemmas.Slice.Eq.{bytes_eq-Decides}
 use Rattle.tree.specs.Meaning.{Hash, Code}
 use Rattle.tree.specs.Rebuilt.{rebuilt}
-use Rattle.verifier.specs.Causes.{Cause, cause, Refuses}
-use Rattle.verifier.specs.Rules.{refuse, after, own_rule}
-use Rattle.verifier.specs.declared.refusal.Refusal.{Refusal}
-use Rattle.verifier.specs.declared.refusal.Refusal.TheVariants.{Grown, Spent, Output, Skip, Root}
-use Rattle.verifier.proofs.Causing.{refuses-none, refuses-more, refuses-after}
-use Rattle.verifier.proofs.Refusing.{own-refuses}
-use Rattle.histories.specs.Conditions.{AllGrown, AllSpent, NoRoom, WrongSkip, WrongOwnRoot, grow_causes, key_causes, sign_causes, skip_causes, trace_causes}
-use Rattle.histories.specs.Rules.{grow_answer, key_size, key_answer, release_size, sign_answer, skip_answer, trace_answer}
-use Rattle.histories.specs.States.{Making, Signing}
-use Rattle.histories.proofs.Tracing.{ReadsOwn, own-shown}
+use Rattle.growth.specs.Grown.{parameters}
+use Rattle.records.specs.Causes.{Cause, cause, Refuses}
+use Rattle.records.specs.Rules.{refuse, after, release_rule}
+use Rattle.records.specs.declared.refusal.Refusal.{Refusal}
+use Rattle.records.specs.declared.refusal.Refusal.TheVariants.{Grown, Spent, Output, Skip, Root}
+use Rattle.records.proofs.Causing.{refuses-none, refuses-more, refuses-after}
+use Rattle.records.proofs.Refusing.{release-refuses}
+use Rattle.rules.specs.Conditions.{AllGrown, AllSpent, NoRoom, WrongSkip, WrongOwnRoot, grow_causes, key_causes, sign_causes, skip_causes, trace_causes}
+use Rattle.rules.specs.Rules.{grow_answer, key_size, key_answer, release_size, sign_answer, skip_answer, trace_answer}
+use Rattle.rules.specs.States.{Making, Signing}
+use Rattle.rules.proofs.Tracing.{ReadsOwn, own-shown}
 
 -- an answer made of a value is refused as the value is
 refuses-on : {A B : Type 0} (f : A → B) (causes : List Cause) (r : Result A Refusal) → Refuses causes r → Refuses causes (after r (λ x. Ok (f x)))
@@ -45,13 +46,13 @@ skip-refuses s leaf r is =
 pub trace-refuses : (hash : Hash) (code : Code) (s : Signing) (stamp bytes report : List ℕ) (r : Result (ℕ × ℕ × ℕ) Refusal) → ReadsOwn hash code s stamp bytes report → r ≡ trace_answer hash code s stamp bytes → Refuses (trace_causes hash code s stamp bytes) r
 trace-refuses hash code s stamp bytes report r read is =
     let o = s.origin in
-    let own = own_rule code.count o.height bytes in
+    let own = release_rule code.count o.height bytes in
     let last = cause 12 (WrongOwnRoot hash code s stamp bytes) ∷ [] in
     subst (Refuses (trace_causes hash code s stamp bytes)) (sym is)
     (refuses-on _ (trace_causes hash code s stamp bytes) _
     (subst (Refuses (trace_causes hash code s stamp bytes)) (sym read)
-    (refuses-after _ last own _ (own-refuses code.count o.height bytes)
+    (refuses-after _ last own _ (release-refuses code.count o.height bytes)
     (λ release shown.
-    subst (λ x. Refuses last (refuse (not (bytes_eq (rebuilt hash code o.hash_key o.masks o.height x.leaf stamp x.row) s.root)) Root (Ok x.leaf)))
+    subst (λ x. Refuses last (refuse (not (bytes_eq (rebuilt hash code (parameters o) x.leaf stamp x.row) s.root)) Root (Ok x.leaf)))
     (sym (own-shown code.count o.height bytes release shown))
     (refuses-more _ (WrongOwnRoot hash code s stamp bytes) Root _ _ (Decides-not _ (bytes_eq-Decides _ _)) (refuses-none _))))))

@@ -8,19 +8,22 @@ use Rattle.compare.specs.declared.verdict.Verdict.{Verdict}
 use Rattle.compare.proofs.Searches.{found_first, found-only}
 use Rattle.tree.specs.Meaning.{Hash, Code}
 use Rattle.tree.specs.Rebuilt.{rebuilt}
-use Rattle.verifier.specs.Keys.{Shown}
-use Rattle.verifier.specs.Records.{release_length, leaf_of, row_of}
-use Rattle.verifier.specs.Rules.{verify_rule, after, refuse, header_rule, own_rule}
-use Rattle.verifier.specs.declared.refusal.Refusal.{Refusal}
-use Rattle.verifier.specs.declared.refusal.Refusal.TheVariants.{Layout, Leaf, Root}
-use Rattle.verifier.proofs.Facts.{after-at, after-ok, passes, stops, ok_same}
-use Rattle.histories.specs.Rules.{own_key, traced_by, trace_answer, report_after, trace_report, Finds}
-use Rattle.histories.specs.States.{Signing}
+use Rattle.growth.specs.Grown.{parameters}
+use Rattle.records.specs.declared.kind.RecordKind.TheVariants as kind
+use Rattle.records.specs.Keys.{Shown}
+use Rattle.records.specs.Records.{release_length, leaf_of, row_of}
+use Rattle.verifier.specs.Rules.{verify_rule}
+use Rattle.records.specs.Rules.{after, refuse, header_rule, release_rule}
+use Rattle.records.specs.declared.refusal.Refusal.{Refusal}
+use Rattle.records.specs.declared.refusal.Refusal.TheVariants.{Layout, Leaf, Root}
+use Rattle.records.proofs.Facts.{after-at, after-ok, passes, stops, ok_same}
+use Rattle.rules.specs.Rules.{own_key, traced_by, trace_answer, report_after, trace_report, Finds}
+use Rattle.rules.specs.States.{Signing}
 
 -- what a signer reads of a record of its own: the leaf number, and the strings that follow it
-pub own-shown : (count h : ℕ) (bytes : List ℕ) (shown : Shown) → own_rule count h bytes ≡ Ok shown → shown ≡ record { leaf = leaf_of bytes; row = row_of bytes }
+pub own-shown : (count h : ℕ) (bytes : List ℕ) (shown : Shown) → release_rule count h bytes ≡ Ok shown → shown ≡ record { leaf = leaf_of bytes; row = row_of bytes }
 own-shown count h bytes shown is =
-    let head = after-ok (header_rule 2 bytes) _ is in
+    let head = after-ok (header_rule kind.Release bytes) _ is in
     let long = passes (not (eqb (length bytes) (release_length count h))) Layout _ head.2 in
     let below = passes (leb (2 ^ h) (leaf_of bytes)) Leaf _ long.1 in
     ok_same (sym below.1)
@@ -54,21 +57,31 @@ module _ (hash : Hash) (code : Code) (s : Signing) (stamp bytes report : List �
       record {
         answers = ap {B = Result (ℕ × ℕ × ℕ) Refusal} Ok (n ∙ ap (verdict_numbers i) finds) ∙ sym (ap (λ x. after x (λ j. Ok (verdict_numbers j (first j)))) is);
         reports = r ∙ ap verdict_report finds ∙ sym (ap (λ x. report_after x (λ j. verdict_report (first j)) report) is);
-        finds = (i, v, is, subst (Found hash code t) (sym finds) (found_first hash code t), (λ v' f. found-only hash code t v' f ∙ sym finds), n, r);
+        finds = (
+          i,
+          v,
+          record {
+            verified = is;
+            first = subst (Found hash code t) (sym finds) (found_first hash code t);
+            only = λ v' f. found-only hash code t v' f ∙ sym finds;
+            answers = n;
+            reports = r;
+          },
+        );
       }
 
   -- what the signer reads by itself decides as verify does
   abbrev pub ReadsOwn : Type 0
   ReadsOwn =
-      verified ≡ after (own_rule code.count s.origin.height bytes) (λ release. refuse (not (bytes_eq (rebuilt hash code s.origin.hash_key s.origin.masks s.origin.height release.leaf stamp release.row) s.root)) Root (Ok release.leaf))
+      verified ≡ after (release_rule code.count s.origin.height bytes) (λ release. refuse (not (bytes_eq (rebuilt hash code (parameters s.origin) release.leaf stamp release.row) s.root)) Root (Ok release.leaf))
 
   module _ (read : ReadsOwn) where
-    pub unread : (e : Refusal) → Err e ≡ own_rule code.count s.origin.height bytes → ByRule (Err e) report
-    unread e is = refused e (read ∙ sym (stops (own_rule code.count s.origin.height bytes) e _ is))
+    pub unread : (e : Refusal) → Err e ≡ release_rule code.count s.origin.height bytes → ByRule (Err e) report
+    unread e is = refused e (read ∙ sym (stops (release_rule code.count s.origin.height bytes) e _ is))
 
-    module _ (shown : Shown) (is : Ok shown ≡ own_rule code.count s.origin.height bytes) (root : List ℕ) (leads : root ≡ rebuilt hash code s.origin.hash_key s.origin.masks s.origin.height shown.leaf stamp shown.row) where
+    module _ (shown : Shown) (is : Ok shown ≡ release_rule code.count s.origin.height bytes) (root : List ℕ) (leads : root ≡ rebuilt hash code (parameters s.origin) shown.leaf stamp shown.row) where
       tested : verified ≡ refuse (not (bytes_eq root s.root)) Root (Ok shown.leaf)
-      tested = read ∙ after-at (own_rule code.count s.origin.height bytes) shown _ (sym is) ∙ ap (λ r. refuse (not (bytes_eq r s.root)) Root (Ok shown.leaf)) (sym leads)
+      tested = read ∙ after-at (release_rule code.count s.origin.height bytes) shown _ (sym is) ∙ ap (λ r. refuse (not (bytes_eq r s.root)) Root (Ok shown.leaf)) (sym leads)
 
       pub misled : bytes_eq root s.root ≡ false → ByRule (Err Root) report
       misled differ = refused Root (tested ∙ cond-true (not (bytes_eq root s.root)) _ _ (not_from_false _ differ))

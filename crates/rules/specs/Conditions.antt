@@ -1,12 +1,13 @@
 -- The refusals of the signer's calls: the condition of each, and each call's list in its order.
 use Rattle.std.specs.Prelude.{◌≡◌, ℕ, ◌^◌, ◌<◌, ◌≢◌, ◌⊎◌, List, [], ◌∷◌, ◌++◌, length}
+use Rattle.growth.specs.Grown.{parameters}
 use Rattle.tree.specs.Meaning.{Hash, Code}
 use Rattle.tree.specs.Rebuilt.{rebuilt}
-use Rattle.verifier.specs.Causes.{Cause, cause}
-use Rattle.verifier.specs.Conditions.{own_causes}
-use Rattle.verifier.specs.Records.{leaf_of, row_of}
-use Rattle.histories.specs.Rules.{key_size, release_size}
-use Rattle.histories.specs.States.{Making, Signing}
+use Rattle.records.specs.Causes.{Cause, cause}
+use Rattle.records.specs.Conditions.{release_causes}
+use Rattle.records.specs.Records.{leaf_of, row_of}
+use Rattle.rules.specs.Rules.{key_size, release_size}
+use Rattle.rules.specs.States.{Making, Signing}
 
 -- 1: a plan's height outside 1 to 8
 abbrev pub WrongPlan : ℕ → Type 0
@@ -28,12 +29,10 @@ NoRoom out size = length out < size
 abbrev pub WrongSkip : Signing → ℕ → Type 0
 WrongSkip s leaf = (leaf < s.next) ⊎ (2 ^ s.origin.height < leaf)
 
--- 12: the root rebuilt from a record, under the signer's own hash key, masks and height, is unlike
--- the signer's root
+-- 12: the root rebuilt from a record, under the signer's own parameters, is unlike the signer's root
 abbrev pub WrongOwnRoot : Hash → Code → Signing → List ℕ → List ℕ → Type 0
 WrongOwnRoot hash code s stamp bytes =
-    let o = s.origin in
-    rebuilt hash code o.hash_key o.masks o.height (leaf_of bytes) stamp (row_of bytes) ≢ s.root
+    rebuilt hash code (parameters s.origin) (leaf_of bytes) stamp (row_of bytes) ≢ s.root
 
 -- the plan of a key
 abbrev pub plan_causes : ℕ → List Cause
@@ -58,5 +57,5 @@ skip_causes s leaf = cause 5 (WrongSkip s leaf) ∷ []
 -- trace: 6, 7, 10 and 11 of a record that is read by its own signer, then 12
 abbrev pub trace_causes : Hash → Code → Signing → List ℕ → List ℕ → List Cause
 trace_causes hash code s stamp bytes =
-    own_causes code.count s.origin.height bytes
+    release_causes code.count s.origin.height bytes
     ++ (cause 12 (WrongOwnRoot hash code s stamp bytes) ∷ [])
