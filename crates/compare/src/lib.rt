@@ -13,4 +13,4 @@ mod verdict;
 pub use comparing::Comparison;
 use sides::{Compared, Sides};
 pub use subject::Subject;
-pub use verdict::{Find, Verdict};
+pub use verdict::{Find, REPORT, Verdict};

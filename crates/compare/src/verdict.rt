@@ -3,12 +3,15 @@
 ghost use Rattle.std.specs.Prelude.{◌≡◌};
 ghost use Rattle.compare.specs.Found.{verdict_numbers, verdict_report};
 
+/// The bytes of a report: four strings.
+pub const REPORT: usize = 64;
+
 /// Where the hash gave way: a level and a position, or a chain and a height; and the report of it.
 #[derive(Clone, Copy)]
 pub struct Find {
     pub first: u16,
     pub second: u16,
-    pub report: [u8; 64],
+    pub report: [u8; REPORT],
 }
 
 /// The verdict on a record.
@@ -38,11 +41,11 @@ impl Verdict {
     }
 
     /// The report, zero where the record is ours.
-    pub fn report(&self) -> [u8; 64]
+    pub fn report(&self) -> [u8; REPORT]
         ensures { result ≡ verdict_report self.now }
     {
         match self {
-            Verdict::Ours => [0; 64],
+            Verdict::Ours => [0; REPORT],
             Verdict::Node(find) | Verdict::Chain(find) | Verdict::Unrevealed(find) => find.report,
         }
     }

@@ -8,6 +8,7 @@ use Rattle.growth.specs.declared.origin.Origin.{Origin}
 use Rattle.growth.proofs.Strings.{Strings}
 use Rattle.strings.specs.Strings.{Str}
 use Rattle.strings.proofs.Laws.{str-from}
+use Rattle.tree.specs.Laws.{HashLaws}
 use Rattle.tree.specs.Meaning.{Hash}
 use Rattle.rules.specs.States.{Begun}
 use Rattle.signer.specs.declared.signer.Signer.{Signer}
@@ -23,7 +24,7 @@ begun-from o tall seed key masks small =
     }
 
 -- under a hash that gives strings
-pub signer-strings : {H C : Type 0} {tree : tree_hash.Ghosts H} {chain : chain_hash.Ghosts H} {coded : code_trait.Ghosts C} (hash : Hash) (s : Signer H C tree chain coded) → ((k t : List ℕ) → Str k → Str t → Str (hash.step k t)) → ((k l r : List ℕ) → Str k → Str l → Str r → Str (hash.pair k l r)) → Strings hash s.origin
-signer-strings hash s gives joins =
+pub signer-strings : {H C : Type 0} {tree : tree_hash.Ghosts H} {chain : chain_hash.Ghosts H} {coded : code_trait.Ghosts C} (hash : Hash) (s : Signer H C tree chain coded) → HashLaws hash → Strings hash s.origin
+signer-strings hash s laws =
     let b = begun-from s.origin s.tall s.seeded s.sized.0 s.sized.1 s.bytes in
-    record { gives = gives; joins = joins; seeded = b.seeded; keyed = b.keyed; masked = b.masked }
+    record { laws = laws; seeded = b.seeded; keyed = b.keyed; masked = b.masked }

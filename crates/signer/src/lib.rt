@@ -4,9 +4,9 @@
 mod ledger;
 mod maker;
 mod plan;
-mod records;
 mod retired;
 mod scratch;
+mod shown;
 mod signer;
 
 pub use maker::Maker;

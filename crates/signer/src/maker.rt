@@ -6,7 +6,7 @@ ghost use Rattle.histories.specs.Histories.{growing, HasLived};
 ghost use Rattle.tree.specs.Meaning.{hash_by, code_of};
 
 use codes::Code;
-use growth::Origin;
+use growth::{NODES, Origin};
 use hashes::TreeHash;
 use std::marker::PhantomData;
 
@@ -19,7 +19,7 @@ pub struct Maker<H: TreeHash, C: Code> {
     // How many leaves are in.
     grown: u16,
     // String a is what is held at level a.
-    nodes: [u8; 144],
+    nodes: [u8; NODES],
     hash: PhantomData<H>,
     code: PhantomData<C>,
     ghost tall: { (1 ≤ origin.height) × (origin.height ≤ 8) },

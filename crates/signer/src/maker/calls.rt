@@ -7,21 +7,23 @@ ghost use Rattle.histories.specs.Histories.{growing, serving, grow, finish, Live
 ghost use Rattle.rules.specs.Rules.{begin_rule, grow_answer, grow_state, held_rule, finish_state};
 ghost use Rattle.signer.specs.Views.{height_of_plan, making_of, signing_of};
 ghost use Rattle.tree.specs.Meaning.{hash_of, code_of};
+ghost use Rattle.tree.specs.Rows.{work_size};
 ghost use Rattle.records.specs.Causes.{Refuses};
 
 use crate::ledger::Ledger;
 use crate::scratch::Scratch;
 use crate::{Maker, Plan, Signer};
 use codes::Code;
-use growth::{Origin, Tree};
+use growth::{NODES, Origin, Tree};
 use hashes::TreeHash;
+use records::Refusal;
 use std::marker::PhantomData;
 use strings::string_at;
-use verifier::Refusal;
+use tree::rows::{MASKS, WORK};
 
 impl<H: TreeHash, C: Code> Maker<H, C> {
     /// Begins a key: no leaf is in. String 2a of the masks is the left mask of level a, string 2a + 1 the right one.
-    pub fn begin(plan: Plan, seed: [u8; 16], hash_key: [u8; 16], masks: [u8; 512]) -> Maker<H, C>
+    pub fn begin(plan: Plan, seed: [u8; 16], hash_key: [u8; 16], masks: [u8; MASKS]) -> Maker<H, C>
         ensures state { making_of result ≡ begin_rule
             (record { seed = seed; hash_key = hash_key; masks = masks; height = height_of_plan plan }) }
         ensures lived { Lived (hash_of H.TreeHash) (code_of C.Code)
@@ -37,21 +39,21 @@ impl<H: TreeHash, C: Code> Maker<H, C> {
                 height,
             },
             grown: 0,
-            nodes: [0; 144],
+            nodes: [0; NODES],
             hash: PhantomData,
             code: PhantomData,
         }
     }
 
     /// Adds the next leaf, and answers how many are in. Refuses where all leaves are in.
-    pub fn grow(&mut self, work: &mut [u8; 4096]) -> Result<u16, Refusal>
+    pub fn grow(&mut self, work: &mut [u8; WORK]) -> Result<u16, Refusal>
         ensures answer { result ≡ grow_answer (making_of self.old) }
         ensures refuses { Refuses (grow_causes (making_of self.old)) result }
         ensures state { making_of self.new ≡ grow_state (hash_of H.TreeHash)
             (code_of C.Code) (making_of self.old) }
         ensures lived { Continues (hash_of H.TreeHash) (code_of C.Code)
             (growing (making_of self.old)) (grow result) (growing (making_of self.new)) }
-        ensures wiped { work.new ≡ replicate 4096 0 }
+        ensures wiped { work.new ≡ replicate work_size 0 }
     {
         let guard = Scratch { bytes: work };
         if self.grown == 1 << self.origin.height {
@@ -86,14 +88,14 @@ impl<H: TreeHash, C: Code> Maker<H, C> {
     }
 
     /// Grows whatever leaves are lacking, and puts the key into service. The work buffer is zero after.
-    pub fn finish(self, work: &mut [u8; 4096]) -> Signer<H, C>
+    pub fn finish(self, work: &mut [u8; WORK]) -> Signer<H, C>
         ensures state { signing_of result ≡ finish_state (hash_of H.TreeHash)
             (code_of C.Code) (making_of self) }
         ensures rooted { (signing_of result).root ≡ node_at (hash_of H.TreeHash)
             (code_of C.Code) (signing_of result).origin 0 0 }
         ensures lived { Continues (hash_of H.TreeHash) (code_of C.Code)
             (growing (making_of self)) finish (serving (signing_of result)) }
-        ensures wiped { work.new ≡ replicate 4096 0 }
+        ensures wiped { work.new ≡ replicate work_size 0 }
     {
         let guard = Scratch { bytes: work };
         let Maker {

@@ -8,7 +8,7 @@ ghost use Rattle.records.specs.Causes.{Refuses};
 ghost use Rattle.records.specs.Rules.{seen};
 
 use crate::Plan;
-use verifier::Refusal;
+use records::Refusal;
 
 impl Plan {
     /// The plan of a key of this height. Refuses a height outside 1 to 8.

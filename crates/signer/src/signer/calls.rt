@@ -6,15 +6,17 @@ ghost use Rattle.histories.specs.Histories.{serving, retired, sign, skip, retire
 ghost use Rattle.rules.specs.Rules.{Accepts, release_record, sign_answer, sign_state, sign_output, skip_answer, skip_state};
 ghost use Rattle.signer.specs.Views.{signing_of, signing_of_retired};
 ghost use Rattle.tree.specs.Meaning.{hash_of, code_of};
+ghost use Rattle.tree.specs.Rows.{work_size};
 ghost use Rattle.records.specs.Causes.{Refuses};
 
-use crate::records::write_release;
 use crate::scratch::Scratch;
+use crate::shown::Shown;
 use crate::{Retired, Signer};
 use codes::Code;
 use growth::Tree;
 use hashes::TreeHash;
-use verifier::{Refusal, release_length};
+use records::{Refusal, release_length, write_release};
+use tree::rows::WORK;
 
 impl<H: TreeHash, C: Code> Signer<H, C> {
     /// Spends the next leaf on a stamp: writes the release record at the start of the output, and answers its length and
@@ -23,7 +25,7 @@ impl<H: TreeHash, C: Code> Signer<H, C> {
         &mut self,
         stamp: &[u8; 16],
         out: &mut [u8],
-        work: &mut [u8; 4096],
+        work: &mut [u8; WORK],
     ) -> Result<(usize, u16), Refusal>
         ensures answer { result ≡ sign_answer (code_of C.Code) (signing_of self.old) out.old }
         ensures refuses { Refuses (sign_causes (code_of C.Code) (signing_of self.old) out.old) result }
@@ -33,12 +35,12 @@ impl<H: TreeHash, C: Code> Signer<H, C> {
             (signing_of self.old) stamp.now out.old }
         ensures accepts { (signing_of self.old).next < 2 ^ (signing_of self.old).origin.height →
             Accepts (hash_of H.TreeHash) (code_of C.Code) (signing_of self.old) stamp.now
-            (release_record (hash_of H.TreeHash) (code_of C.Code) (signing_of self.old) stamp.now)
-            (signing_of self.old).next }
+            (release_record (hash_of H.TreeHash) (code_of C.Code) (signing_of self.old)
+            (signing_of self.old).next stamp.now) (signing_of self.old).next }
         ensures lived { Continues (hash_of H.TreeHash) (code_of C.Code)
             (serving (signing_of self.old)) (sign stamp.now out.old result out.new)
             (serving (signing_of self.new)) }
-        ensures wiped { work.new ≡ replicate 4096 0 }
+        ensures wiped { work.new ≡ replicate work_size 0 }
     {
         let guard = Scratch { bytes: work };
         let leaf = self.next;
@@ -54,7 +56,8 @@ impl<H: TreeHash, C: Code> Signer<H, C> {
             hash: self.hash,
             code: self.code,
         };
-        write_release(&tree, leaf, stamp, out, guard.bytes);
+        let shown = Shown { tree, leaf, stamp };
+        write_release::<C, Shown<'_, '_, H, C>>(out, self.origin.height, leaf, &shown, guard.bytes);
         self.ledger.enter(leaf, stamp);
         self.next = leaf + 1;
         Ok((size, leaf))

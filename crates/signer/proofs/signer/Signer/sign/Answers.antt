@@ -9,6 +9,7 @@ use Rattle.rules.specs.Conditions.{sign_causes}
 use Rattle.histories.specs.Histories.{serving, sign, Continues}
 use Rattle.rules.specs.Rules.{release_record, Accepts, sign_answer, sign_state, sign_output}
 use Rattle.rules.specs.States.{Signing}
+use Rattle.growth.specs.Shown.{shown_row}
 use Rattle.signer.specs.Views.{signing_of}
 use Rattle.rules.proofs.Accepting.{accepting}
 use Rattle.histories.proofs.Continuing.{sign-continues, lives-on}
@@ -40,7 +41,7 @@ module _ (g : given.Over) (c : Start g) where
   leaves = let tall = c.args.self.now.tall in one_shl s.origin.height 16 (omega arith)
 
   -- what is ensured of an answer, a signer and an output that are by the rules
-  ends : {W : Type 0} (r : Result (ℕ × ℕ) Refusal) (s' : Signing) (after : List ℕ) → r ≡ sign_answer code s out → s' ≡ sign_state code s stamp out → after ≡ sign_output hash code s stamp out → W → record { answer : r ≡ sign_answer code s out; refuses : Refuses (sign_causes code s out) r; state : s' ≡ sign_state code s stamp out; output : after ≡ sign_output hash code s stamp out; accepts : s.next < 2 ^ s.origin.height → Accepts hash code s stamp (release_record hash code s stamp) s.next; lived : Continues hash code (serving s) (sign stamp out r after) (serving s'); wiped : W }
+  ends : {W : Type 0} (r : Result (ℕ × ℕ) Refusal) (s' : Signing) (after : List ℕ) → r ≡ sign_answer code s out → s' ≡ sign_state code s stamp out → after ≡ sign_output hash code s stamp out → W → record { answer : r ≡ sign_answer code s out; refuses : Refuses (sign_causes code s out) r; state : s' ≡ sign_state code s stamp out; output : after ≡ sign_output hash code s stamp out; accepts : s.next < 2 ^ s.origin.height → Accepts hash code s stamp (release_record hash code s s.next stamp) s.next; lived : Continues hash code (serving s) (sign stamp out r after) (serving s'); wiped : W }
   unfolding release_record
   ends r s' after answer state output wiped =
       let self = c.args.self.now in
@@ -48,13 +49,13 @@ module _ (g : given.Over) (c : Start g) where
       let few : code.levels ≤ 8 = g.met.C.Code.level_range.1 in
       let many : code.count ≤ 256 = omega (arith, g.met.C.Code.count_range, pow_mono {i = code.levels} {j = 8} few) in
       let low : (k : ℕ) → code.digit stamp k ≤ code.top = λ k. g.met.C.Code.within stamp k str in
-      let strings = signer-strings hash self g.met.H.ChainHash.gives g.met.H.TreeHash.joins in
+      let strings = signer-strings hash self (record { gives = g.met.H.ChainHash.gives; joins = g.met.H.TreeHash.joins }) in
       record {
         answer = answer;
         refuses = sign-refuses code s out r answer;
         state = state;
         output = output;
-        accepts = accepting hash code s strings self.tall few self.sized.2 s.next stamp many low self.rooted;
+        accepts = accepting hash code s strings self.tall few self.sized.2 s.next stamp g.met.C.Code.count_range.0 many low self.rooted;
         lived = sign-continues hash code s s' stamp out after r str answer state output;
         wiped = wiped;
       }
@@ -72,7 +73,7 @@ returns-then-out-size g c =
     ends g at (Err Output) (s g at) (out g at) (search rules) (search rules) (search rules) c.drop-guard-then-out-size.ensures
 
 pub returns : goal.returns
-unfolding release_record
+unfolding release_record shown_row
 returns g c =
     let at = (goal.at.returns g c).Start in
     let all = leaves g at in

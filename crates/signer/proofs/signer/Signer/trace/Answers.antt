@@ -42,19 +42,20 @@ module _ (g : given.Over) (c : Start g) where
   laws : Laws hash code
   laws =
       record {
-        gives = g.met.H.ChainHash.gives;
-        joins = g.met.H.TreeHash.joins;
-        count_range = g.met.C.Code.count_range;
-        top_range = g.met.C.Code.top_range;
-        level_range = g.met.C.Code.level_range;
-        within = g.met.C.Code.within;
-        past = g.met.C.Code.past;
-        apart = g.met.C.Code.apart;
+        of_hash = record { gives = g.met.H.ChainHash.gives; joins = g.met.H.TreeHash.joins };
+        of_code = record {
+          count_range = g.met.C.Code.count_range;
+          top_range = g.met.C.Code.top_range;
+          level_range = g.met.C.Code.level_range;
+          within = g.met.C.Code.within;
+          past = g.met.C.Code.past;
+          apart = g.met.C.Code.apart;
+        };
       }
 
   -- the signer reads as verify does under its own key
   reads : ReadsOwn hash code s stamp bytes c.args.report.now
-  reads = own-reads hash code s (signer-strings hash c.args.self.now laws.of_hash.gives laws.of_hash.joins) c.args.self.now.tall laws.of_code.level_range.1 c.args.self.now.sized.2 stamp bytes
+  reads = own-reads hash code s (signer-strings hash c.args.self.now laws.of_hash) c.args.self.now.tall laws.of_code.level_range.1 c.args.self.now.sized.2 stamp bytes
 
   -- what is ensured of an answer and a report that are by the rule
   ends : {W : Type 0} → ((i : ℕ) → Fits w8 (get_or bytes i 0)) → (r : Result (ℕ × ℕ × ℕ) Refusal) (after : List ℕ) → ByRule hash code s stamp bytes c.args.report.now r after → W → record { answer : r ≡ trace_answer hash code s stamp bytes; refuses : Refuses (trace_causes hash code s stamp bytes) r; report : after ≡ trace_report hash code s stamp bytes c.args.report.now; finds : Finds hash code s stamp bytes r after; lived : (x : State) → IsSigner x s → Continues hash code x (trace stamp bytes c.args.report.now r after) x; promise : Promised hash code s stamp bytes r after; behind : HasLived hash code (serving s); wiped : W }
@@ -77,18 +78,18 @@ pub returns-in_err-release : goal.returns-in_err-release
 returns-in_err-release g c =
     let at = (goal.at.returns-in_err-release g c).Start in
     let p = err_from_is_err_and c.from_residual.result c.from_residual.ensures.1 in
-    let by = unread _ _ _ _ _ _ (reads g at) c.in_err-release.field-0.0 c.in_err-release.ensures in
+    let by = unread _ _ _ _ _ _ (reads g at) c.in_err-release.field-0.0 c.in_err-release.ensures.answer in
     ends g at c.type_inv.bytes _ _ (subst (λ r. ByRule (hash g at) (code g at) (s g at) (stamp g at) (bytes g at) at.args.report.now r at.args.report.now) (sym (p.1 ∙ ap Err p.2)) by) c.drop-guard.ensures
 
 pub returns-then-not-same : goal.returns-then-not-same
 returns-then-not-same g c =
     let at = (goal.at.returns-then-not-same g c).Start in
-    ends g at c.type_inv.bytes _ _ (misled _ _ _ _ _ _ (reads g at) (shown_by c.in_ok-release.release) c.in_ok-release.ensures c.compare-compared.result.root c.compare-compared.ensures.root (sym c.if-not-same.ensures.value)) c.drop-guard-then-not-same.ensures
+    ends g at c.type_inv.bytes _ _ (misled _ _ _ _ _ _ (reads g at) (shown_by c.in_ok-release.release) c.in_ok-release.ensures.answer c.compare-compared.result.root c.compare-compared.ensures.root (sym c.if-not-same.ensures.value)) c.drop-guard-then-not-same.ensures
 
 pub returns : goal.returns
 returns g c =
     let at = (goal.at.returns g c).Start in
     let compared = c.compare-compared in
     ends g at c.type_inv.bytes _ _
-    (led _ _ _ _ _ _ (reads g at) (shown_by c.in_ok-release.release) c.in_ok-release.ensures compared.result.root compared.ensures.root (sym c.if-not-same.ensures.value) _ compared.result.verdict _ _ c.row.ensures compared.ensures.verdict c.numbers.ensures c.report.ensures)
+    (led _ _ _ _ _ _ (reads g at) (shown_by c.in_ok-release.release) c.in_ok-release.ensures.answer compared.result.root compared.ensures.root (sym c.if-not-same.ensures.value) _ compared.result.verdict _ _ c.row.ensures compared.ensures.verdict c.numbers.ensures c.report.ensures)
     c.drop-guard-2.ensures
