@@ -9,8 +9,8 @@ use crate::failure::Failure;
 use crate::lives::{Grow, Key, Sign, Trace, Verify};
 use crate::reply::Reply;
 use crate::source::Source;
+use records::Refusal;
 use schemes::{Scheme, Task};
-use verifier::Refusal;
 
 // Does the work with the hash and the code that have these numbers. Where a number is not known the task stays as it was.
 fn run_numbered<A, T: Task<Output = Result<A, Refusal>>>(
@@ -47,7 +47,7 @@ pub extern "C" fn verify_release(
 
 /// Begins a key and grows leaves: whether a node is held at the level, and its position; `node` is then its string.
 #[unsafe(no_mangle)]
-pub extern "C" fn grow_state(
+pub extern "C" fn grow_leaves(
     hash: u8,
     code: u8,
     source: &Source,

@@ -1,7 +1,7 @@
 //! What a call on a whole key gives in place of an answer.
 
+use records::Refusal;
 use schemes::UnknownScheme;
-use verifier::Refusal;
 
 /// Why a call has no answer.
 #[derive(Clone, Copy)]

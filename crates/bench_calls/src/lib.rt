@@ -21,7 +21,7 @@ mod reply;
 mod sizes;
 mod source;
 
-pub use calls::{grow_state, sign_release, trace_release, verify_release, write_key};
+pub use calls::{grow_leaves, sign_release, trace_release, verify_release, write_key};
 pub use reply::Reply;
 pub use sizes::type_size;
 pub use source::Source;

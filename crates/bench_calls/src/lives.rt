@@ -10,9 +10,10 @@ ghost use Rattle.records.specs.Rules.{seen};
 use crate::source::Source;
 use codes::Code;
 use hashes::TreeHash;
+use records::{LONGEST_RELEASE, Refusal};
 use schemes::Task;
 use signer::{Maker, Plan, Signer};
-use verifier::{Refusal, open, verify};
+use verifier::{open, verify};
 
 /// Opens a key record, and verifies a release record under it.
 #[derive(Drop)]
@@ -182,7 +183,7 @@ impl Task for Trace<'_, '_> {
     fn run<H: TreeHash, C: Code>(&mut self) -> Result<(u8, u16, u16), Refusal> {
         let mut work = [0; 4096];
         let mut signer = serve::<H, C>(self.source, self.leaf, &mut work)?;
-        let mut out = [0; 4232];
+        let mut out = [0; LONGEST_RELEASE];
         let _ = signer.sign(self.spent, &mut out, &mut work);
         let retired = signer.retire();
         retired.trace(self.stamp, self.release, self.report, &mut work)

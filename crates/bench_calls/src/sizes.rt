@@ -4,9 +4,10 @@ ghost use Rattle.std.specs.Prelude.{◌≡◌, ◌∷◌, [], slice_index};
 
 use codes::Winternitz4;
 use growth::Origin;
+use records::Release;
 use sha256::Sha256Hash;
 use signer::{Maker, Plan, Retired, Signer};
-use verifier::{OpenedKey, Release};
+use verifier::OpenedKey;
 
 /// The bytes of a type: 1 a maker, 2 a signer, 3 a retired signer, 4 an opened key, 5 a plan, 6 an origin, 7 a release that was read;
 /// 0 for any other number. Measured under hash 1 and code 3, which these types do not store.

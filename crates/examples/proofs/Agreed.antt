@@ -6,6 +6,8 @@ use Rattle.std.specs.Str.{bytes_eq}
 use Rattle.std.proofs.lemmas.Slice.Eq.{bytes_eq-Decides}
 use Rattle.strings.specs.Strings.{xor, string_at}
 use Rattle.tree.specs.Meaning.{Hash, Code}
+use Rattle.tree.specs.Nodes.{Parameters}
+use Rattle.growth.specs.Grown.{parameters}
 use Rattle.growth.specs.Shown.{sibling_of}
 use Rattle.compare.specs.Search.{first_from, pair_find, child_find, node_find_at, width, first_place, level_search, node_search}
 use Rattle.compare.specs.Sides.{Traced, our_node, their_node}
@@ -31,8 +33,8 @@ pair-alike pair a b s r =
     (λ i. then_some (one && not ((bytes_eq-Decides s s).1 refl i && (bytes_eq-Decides r r).1 refl i)) find)
     ∙ elim one as (λ b. then_some (b && false) find ≡ None) [ true ↦ refl | false ↦ refl ]
 
-child-alike : (pair : List ℕ → List ℕ → List ℕ) (masks : List ℕ) (a b : ℕ) (s r : List ℕ) → child_find pair masks a b s r s r ≡ None
-child-alike pair masks a b s r = pair-alike pair a b (xor s (string_at masks (2 * a))) (xor r (string_at masks (2 * a + 1)))
+child-alike : (hash : Hash) (p : Parameters) (a b : ℕ) (s r : List ℕ) → child_find hash p a b s r s r ≡ None
+child-alike hash p a b s r = pair-alike (hash.pair p.hash_key) a b (xor s (string_at p.masks (2 * a))) (xor r (string_at p.masks (2 * a + 1)))
 
 module _ (hash : Hash) (code : Code) (t : Traced) (l : ℕ) (within : l ≤ code.levels) (siblings : (e : ℕ) → e < t.origin.height → our_node hash code t (t.origin.height - e) (sibling_of (t.leaf / 2 ^ e)) ≡ string_at t.row (code.count + e)) (level : (k : ℕ) → k < 2 ^ l → SameNode hash code t (t.origin.height + l) (t.leaf * 2 ^ l + k)) where
   abbrev h : ℕ
@@ -43,8 +45,8 @@ module _ (hash : Hash) (code : Code) (t : Traced) (l : ℕ) (within : l ≤ code
       let under = same-below hash code t l within siblings level a b inner near in
       let left = their_node hash code t (a + 1) (2 * b) in
       let right = their_node hash code t (a + 1) (2 * b + 1) in
-      let pair = hash.pair t.origin.hash_key in
-      (λ i. child_find pair t.origin.masks a b (under.0 i) (under.1 i) left right) ∙ child-alike pair t.origin.masks a b left right
+      let p = parameters t.origin in
+      (λ i. child_find hash p a b (under.0 i) (under.1 i) left right) ∙ child-alike hash p a b left right
 
   level-nowhere : (a : ℕ) → a < h + l → level_search hash code t a ≡ None
   level-nowhere a inner =

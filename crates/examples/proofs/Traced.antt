@@ -18,7 +18,8 @@ use Rattle.compare.specs.declared.verdict.Verdict.TheVariants.{Ours, Node, Chain
 use Rattle.rules.specs.Rules.{leaves_more, key_record, release_record, sign_state, sign_output, own_key, traced_by, trace_answer, trace_report, report_after}
 use Rattle.rules.specs.States.{Signing}
 use Rattle.compare.proofs.Agreeing.{SameNode}
-use Rattle.examples.specs.Setting.{string, practice, code1, origin}
+use Rattle.tree.specs.Known.{practice}
+use Rattle.examples.specs.Setting.{string, code1, origin}
 use Rattle.examples.specs.Examples.{Outcome, gives, Right, answered_three, new, output, written, signed, changed, shown, one_changed, two_changed, verdict, reported, tracing}
 use Rattle.examples.proofs.Agreed.{searched-below}
 

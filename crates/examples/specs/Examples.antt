@@ -5,13 +5,17 @@ use Rattle.strings.specs.Strings.{string_at, put_string}
 use Rattle.codes.specs.Codes.{checksum, ending}
 use Rattle.tree.specs.Meaning.{Code}
 use Rattle.tree.specs.Nodes.{join}
+use Rattle.tree.specs.Rows.{masks_size}
+use Rattle.compare.specs.Found.{report_size}
 use Rattle.growth.specs.Grown.{secret}
 use Rattle.records.specs.Records.{key_length, release_length, row_of}
 use Rattle.records.specs.Refusals.{refusal_number}
 use Rattle.records.specs.declared.refusal.Refusal.{Refusal}
-use Rattle.rules.specs.Rules.{sign_answer, sign_state, sign_output, skip_answer, skip_state, trace_answer, trace_report}
+use Rattle.rules.specs.Rules.{sign_answer, sign_state, sign_output, skip_answer, skip_state}
+use Rattle.rules.specs.Rules.{trace_answer, trace_report}
 use Rattle.rules.specs.States.{Signing}
-use Rattle.examples.specs.Setting.{string, practice, code1, code2, code3, origin, fresh}
+use Rattle.tree.specs.Known.{practice}
+use Rattle.examples.specs.Setting.{string, code1, code2, code3, origin, fresh}
 
 -- numbers, or a refusal by its number
 pub data Outcome : Type 0 where
@@ -54,7 +58,7 @@ paired l r = gives (practice.pair (string 0) (string l) (string r))
 
 -- a row of masks with these two at level 3
 abbrev pub masks : ℕ → ℕ → List ℕ
-masks l r = put_string (put_string (replicate 512 0) 6 (string l)) 7 (string r)
+masks l r = put_string (put_string (replicate masks_size 0) 6 (string l)) 7 (string r)
 
 abbrev pub hashing : List Example
 hashing =
@@ -62,7 +66,8 @@ hashing =
     ∷ example (stepped 7) (strings (3 ∷ []))
     ∷ example (paired 4 11) (strings (15 ∷ []))
     ∷ example (paired 5 10) (strings (15 ∷ []))
-    ∷ example (gives (join (practice.pair (string 0)) (masks 1 2) 3 (string 5) (string 9))) (strings (15 ∷ []))
+    ∷ example (gives (join (practice.pair (string 0)) (masks 1 2) 3 (string 5) (string 9)))
+    (strings (15 ∷ []))
     ∷ example (gives (secret practice (origin 2) 2 3)) (strings (5 ∷ []))
     ∷ []
 
@@ -114,7 +119,8 @@ skipping =
     ∷ example (answered (skip_answer twice 3)) (refused 5)
     ∷ []
 
--- height 1: what a new signer writes for a stamp, and the signer once it has signed the stamp of zeros
+-- height 1: what a new signer writes for a stamp, and the signer once it has signed the stamp of
+-- zeros
 abbrev pub written : List ℕ → List ℕ
 written stamp = sign_output practice code1 new stamp output
 
@@ -142,7 +148,8 @@ verdict stamp bytes = answered_three (trace_answer practice code1 signed stamp b
 
 abbrev pub reported : ℕ → List ℕ → List ℕ → Outcome
 reported n stamp bytes =
-    gives (flat_map (string_at (trace_report practice code1 signed stamp bytes (replicate 64 0xFF))) (range_with_len 0 n))
+    let report = trace_report practice code1 signed stamp bytes (replicate report_size 0xFF) in
+    gives (flat_map (string_at report) (range_with_len 0 n))
 
 abbrev pub tracing : List Example
 tracing =

@@ -1,14 +1,8 @@
 -- What the examples are about: the practice hash, the three codes, and a signer grown from zeros.
 use Rattle.std.specs.Prelude.{ℕ, List, ◌∷◌, replicate}
-use Rattle.hashes.specs.contracts.practice.PracticeChainHash.TheImpl as practice_chain
-use Rattle.hashes.specs.contracts.practice.PracticeTreeHash.TheImpl as practice_tree
-use Rattle.codes.specs.contracts.lamport_diffie.LamportDiffieCode.TheImpl as lamport_diffie
-use Rattle.codes.specs.contracts.widths.TwoBits as two_bits
-use Rattle.codes.specs.contracts.widths.TwoBitsDigitWidth.TheImpl as two_bits_width
-use Rattle.codes.specs.contracts.widths.FourBits as four_bits
-use Rattle.codes.specs.contracts.widths.FourBitsDigitWidth.TheImpl as four_bits_width
-use Rattle.codes.specs.contracts.winternitz.WinternitzCode.TheImpl as winternitz
-use Rattle.tree.specs.Meaning.{Hash, Code, hash_by, code_of}
+use Rattle.tree.specs.Known.{practice, lamport_diffie_code, winternitz2_code, winternitz4_code}
+use Rattle.tree.specs.Meaning.{Code}
+use Rattle.tree.specs.Rows.{masks_size}
 use Rattle.growth.specs.declared.origin.Origin.{Origin}
 use Rattle.rules.specs.Rules.{begin_rule, finish_state}
 use Rattle.rules.specs.States.{Signing}
@@ -17,22 +11,20 @@ use Rattle.rules.specs.States.{Signing}
 abbrev pub string : ℕ → List ℕ
 string b = b ∷ replicate 15 0
 
--- the practice hash and the codes, as their impls state them
-abbrev pub practice : Hash
-practice = hash_by practice_chain.ghosts practice_tree.ghosts
-
+-- the codes by their numbers
 abbrev pub code1 : Code
-code1 = code_of lamport_diffie.ghosts
+code1 = lamport_diffie_code
 
 abbrev pub code2 : Code
-code2 = code_of (winternitz.ghosts two_bits.the_row two_bits_width.ghosts two_bits_width.dict)
+code2 = winternitz2_code
 
 abbrev pub code3 : Code
-code3 = code_of (winternitz.ghosts four_bits.the_row four_bits_width.ghosts four_bits_width.dict)
+code3 = winternitz4_code
 
 -- seed, hash key and masks zero
 abbrev pub origin : ℕ → Origin
-origin h = record { seed = string 0; hash_key = string 0; masks = replicate 512 0; height = h }
+origin h =
+    record { seed = string 0; hash_key = string 0; masks = replicate masks_size 0; height = h }
 
 -- the signer that finish gives
 abbrev pub fresh : Code → ℕ → Signing

@@ -1,6 +1,6 @@
 //! Records that are tampered with, so that the practice hash gives way.
 
-use verifier::layout;
+use records::layout;
 
 // The strings of a release record.
 fn strings(record: &mut [u8]) -> &mut [[u8; 16]] {

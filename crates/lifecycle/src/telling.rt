@@ -1,7 +1,7 @@
 //! What is printed of refusals, strings and verdicts.
 
 use strings::Hex;
-use verifier::Refusal;
+use records::Refusal;
 
 pub(crate) fn tell_refusal(rt: &HostRuntime, what: &str, refusal: Refusal) -> anyhow::Result<()> {
     println!(rt; "{what} is refused with {refusal}.")?;

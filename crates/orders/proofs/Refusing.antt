@@ -1,4 +1,5 @@
 -- A report refuses by the lists of the key record and of the orders.
+use Rattle.records.specs.declared.kind.RecordKind.TheVariants as kind
 use Rattle.std.proofs.Common.{◌≡◌, ℕ, ◌<◌, ◌≤◌, false, not, eqb, inl, ⊎_elim, List, ◌∷◌, length, take, drop, Ok, Err, Result, Decides, sym, ap, ◌∙◌, subst, arith, [], is_err, IsErr, refl}
 use Rattle.std.proofs.Math.ListN.{drop_of_length-le}
 use Rattle.std.proofs.lemmas.Bool.{false≢true}
@@ -45,7 +46,7 @@ open-refuses : (hash : HashName) (code : CodeName) (key : List ℕ) → (hash_na
 open-refuses hash code key h c =
     let unlike = Decides-or _ _ (differs (hash_number_of key) (hash_named hash).number) (differs (code_number_of key) (code_named code).number) in
     let long = differs (length key) (key_length (height_of key) (code_named code).levels) in
-    refuses-after _ _ (header_rule 1 key) _ (header-refuses 1 key)
+    refuses-after _ _ (header_rule kind.Key key) _ (header-refuses kind.Key key)
     (λ body is.
     refuses-more (foreign (hash_named hash).number (code_named code).number key) (UnknownKey key) Parameters _ _
     (λ test. absurd (⊎_elim (λ n. n (sym h)) (λ n. n (sym c)) (unlike.0 test)), λ unknown. absurd (⊎_elim (λ n. n hash h) (λ n. n code c) unknown))
@@ -67,10 +68,10 @@ unknown-like (Ok body) causes report p by =
 unknown-like (Err e) causes report p by =
     subst (Refuses causes) (sym p.0) (record { refused = by.refused; answered = by.answered })
 
-unknown-refuses : (key : List ℕ) (report : Reported) → Unknown (header_rule 1 key) report → UnknownKey key → Refuses (named_key_causes key) report.key
+unknown-refuses : (key : List ℕ) (report : Reported) → Unknown (header_rule kind.Key key) report → UnknownKey key → Refuses (named_key_causes key) report.key
 unknown-refuses key report p unknown =
-    unknown-like (header_rule 1 key) (named_key_causes key) report p
-    (refuses-after _ _ (header_rule 1 key) _ (header-refuses 1 key) (λ body is. refuses-here (UnknownKey key) Parameters _ unknown))
+    unknown-like (header_rule kind.Key key) (named_key_causes key) report p
+    (refuses-after _ _ (header_rule kind.Key key) _ (header-refuses kind.Key key) (λ body is. refuses-here (UnknownKey key) Parameters _ unknown))
 
 key-refuses : (key orders : List ℕ) (report : Reported) → CheckedBy (scheme_numbered (hash_number_of key) (code_number_of key)) key orders report → Refuses (named_key_causes key) report.key
 key-refuses key orders report p =
@@ -125,7 +126,7 @@ no-orders (Ok scheme) key orders report p e =
     let hash = hash_named scheme.hash in
     let code = code_named scheme.code in
     none-after hash code (open_rule hash.number code.number code.levels key) orders report p e
-no-orders (Err u) key orders report p e = none-unknown (header_rule 1 key) report p
+no-orders (Err u) key orders report p e = none-unknown (header_rule kind.Key key) report p
 
 pub refuses-by-lists : (input : List ℕ) (report : Reported) → Reports input report → RefusesByLists input report
 refuses-by-lists input report p = record {

@@ -1,4 +1,5 @@
 -- The report of an input, and that there is no other.
+use Rattle.records.specs.declared.kind.RecordKind.TheVariants as kind
 use Rattle.std.proofs.Common.{◌≡◌, ℕ, List, Ok, Err, Result, sym, ap, ◌∙◌, subst}
 use Rattle.tree.specs.Meaning.{Hash, Code}
 use Rattle.records.specs.Keys.{Key}
@@ -40,7 +41,7 @@ unknown-only (Err e) a b p q = refused-only e a b p q
 
 checked_by-only : (s : Result Scheme UnknownScheme) (key orders : List ℕ) (a b : Reported) → CheckedBy s key orders a → CheckedBy s key orders b → b ≡ a
 checked_by-only (Ok scheme) key orders a b p q = checked-only (hash_named scheme.hash) (code_named scheme.code) _ orders a b p q
-checked_by-only (Err e) key orders a b p q = unknown-only (header_rule 1 key) a b p q
+checked_by-only (Err e) key orders a b p q = unknown-only (header_rule kind.Key key) a b p q
 
 -- an input has one report
 pub reports-only : (input : List ℕ) (a b : Reported) → Reports input a → Reports input b → b ≡ a

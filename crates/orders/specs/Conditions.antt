@@ -1,4 +1,5 @@
 -- What a key record and an order are refused for: each condition, and both lists in their order.
+use Rattle.records.specs.declared.kind.RecordKind.TheVariants as kind
 use Rattle.std.specs.Prelude.{◌≡◌, ℕ, ◌<◌, List, [], ◌∷◌, ◌++◌}
 use Rattle.std.specs.Prelude.{length, take, drop, IsErr, Ok, Result}
 use Rattle.tree.specs.Meaning.{Hash, Code}
@@ -30,7 +31,7 @@ WrongNamedLength bytes =
 -- a key record, by the hash and the code that it names
 abbrev pub named_key_causes : List ℕ → List Cause
 named_key_causes bytes =
-    header_causes 1 bytes
+    header_causes kind.Key bytes
     ++ (cause 8 (UnknownKey bytes)
     ∷ (cause 9 (WrongHeight bytes) ∷ (cause 10 (WrongNamedLength bytes) ∷ [])))
 

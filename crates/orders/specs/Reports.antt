@@ -1,4 +1,5 @@
 -- What is reported of a key record and the orders that follow it.
+use Rattle.records.specs.declared.kind.RecordKind.TheVariants as kind
 use Rattle.std.specs.Prelude.{◌≡◌, ℕ, List, [], Ok, Err, Result}
 use Rattle.tree.specs.Meaning.{Hash, Code}
 use Rattle.records.specs.Keys.{Key}
@@ -40,7 +41,7 @@ CheckedBy (Ok scheme) key orders report =
     let hash = hash_named scheme.hash in
     let code = code_named scheme.code in
     Checked hash code (open_rule hash.number code.number code.levels key) orders report
-CheckedBy (Err e) key orders report = Unknown (header_rule 1 key) report
+CheckedBy (Err e) key orders report = Unknown (header_rule kind.Key key) report
 
 -- the report of an input: a key record, then orders
 abbrev pub Reports : List ℕ → Reported → Type 0

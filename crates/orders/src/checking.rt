@@ -8,16 +8,18 @@ ghost use Rattle.orders.specs.Reading.{Stopped, ReadUpTo};
 ghost use Rattle.orders.specs.Reports.{Reported, CheckedBy, Unknown, Reports, most_read};
 ghost use Rattle.orders.specs.Views.{reported};
 ghost use Rattle.records.specs.Rules.{header_rule};
+ghost use Rattle.records.specs.declared.kind.RecordKind.TheVariants as kind;
 
 use crate::reading::fill;
 use crate::records::split_record;
 use crate::{KeySummary, LIMIT, Report, Source, Tour};
 use codes::Code;
 use hashes::TreeHash;
+use records::{RecordKind, Refusal, body_of, layout};
 use schemes::{Scheme, Task};
 use std::io::{self, ErrorKind};
 use strings::byte_at;
-use verifier::{OpenedKey, RecordKind, Refusal, body_of, layout, open};
+use verifier::{OpenedKey, open};
 
 // Opens a key record with any hash and code.
 #[derive(Drop)]
@@ -62,7 +64,7 @@ fn check_by<'a>(scheme: Scheme, key: &'a [u8], orders: &'a [u8]) -> Report<'a>
 
 // The report of a key record that names a hash or code that is not known.
 fn unknown(key: &[u8]) -> Report<'_>
-    ensures { Unknown (header_rule 1 key.now) (reported result) }
+    ensures { Unknown (header_rule kind.Key key.now) (reported result) }
 {
     match body_of(key, RecordKind::Key) {
         Ok(_) => Report::Refused(Refusal::Parameters),

@@ -1,7 +1,7 @@
 //! An order that was checked.
 
+use records::Refusal;
 use std::fmt;
-use verifier::Refusal;
 
 /// An order: its number in the tour, counted from 1, and its outcome, the leaf number of one that opens.
 #[derive(Clone, Copy)]

@@ -3,15 +3,17 @@
 ghost use Rattle.std.specs.Prelude.{◌≡◌, ◌≤◌, length};
 ghost use Rattle.orders.specs.Outcomes.{record_length, first_record, after_record};
 
+use records::split_header;
+
 // How long the first record in `bytes` is. Where not all of it is there, the rest is one record.
 fn record_length(bytes: &[u8]) -> usize
     ensures value { result ≡ record_length bytes.now }
     ensures within { result ≤ length bytes.now }
 {
-    let [a, b, c, d, ..] = bytes else {
+    let Some(header) = split_header(bytes) else {
         return bytes.len();
     };
-    let named = u32::from_le_bytes([*a, *b, *c, *d]) as usize;
+    let named = header.length as usize;
     if bytes.len() < 10 || named < 10 || named > bytes.len() {
         bytes.len()
     } else {

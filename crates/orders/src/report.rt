@@ -6,8 +6,8 @@ ghost use Rattle.orders.specs.Texts.{order_lines, report_text};
 ghost use Rattle.orders.specs.Views.{orders_left, reported};
 
 use crate::{Orders, Tour};
+use records::Refusal;
 use std::fmt;
-use verifier::Refusal;
 
 /// The key record refused, and then no order is looked at; or opened, and the orders that follow it.
 #[derive(Clone, Copy)]

@@ -6,8 +6,9 @@ use crate::records::split_record;
 use crate::{KeySummary, Order};
 use codes::Code;
 use hashes::TreeHash;
+use records::Refusal;
 use schemes::{Scheme, Task};
-use verifier::{OpenedKey, Refusal, verify};
+use verifier::{OpenedKey, verify};
 
 /// An opened key record and the orders that follow it.
 #[derive(Clone, Copy)]

@@ -9,7 +9,8 @@ use hashes::TreeHash;
 use schemes::{Scheme, Task};
 use signer::{Maker, Plan, Signer};
 use std::fs;
-use verifier::{Refusal, open, verify};
+use records::Refusal;
+use verifier::{open, verify};
 
 // What a key is grown from, a leaf and a stamp; and then the key record that they give, and the release record of the leaf for
 // the stamp.

@@ -1,24 +1,10 @@
--- The hashes and codes that a key record can name.
+-- The hashes that are made of SHA-256 and AES-128, as values.
 use Rattle.aes128.specs.Cipher.{aes_step, aes_pair}
-use Rattle.codes.specs.Codes.{lamport_diffie, winternitz}
-use Rattle.hashes.specs.Practice.{practice_step, practice_pair}
 use Rattle.sha256.specs.TreeHash.{sha_step, sha_pair}
-use Rattle.tree.specs.Meaning.{Hash, Code}
-
-abbrev pub practice : Hash
-practice = record { number = 3; step = practice_step; pair = practice_pair }
+use Rattle.tree.specs.Meaning.{Hash}
 
 abbrev pub sha : Hash
 sha = record { number = 1; step = sha_step; pair = sha_pair }
 
 abbrev pub aes : Hash
 aes = record { number = 2; step = aes_step; pair = aes_pair }
-
-abbrev pub lamport_diffie_code : Code
-lamport_diffie_code = record { number = 1; count = 256; top = 1; levels = 8; digit = lamport_diffie }
-
-abbrev pub winternitz2_code : Code
-winternitz2_code = record { number = 2; count = 69; top = 3; levels = 7; digit = winternitz 2 5 }
-
-abbrev pub winternitz4_code : Code
-winternitz4_code = record { number = 3; count = 35; top = 15; levels = 6; digit = winternitz 4 3 }

@@ -2,7 +2,8 @@
 use Rattle.std.specs.Prelude.{◌≢◌, ◌⊎◌, ℕ, if◌then◌else◌, Ok, Err, Result, ◌==◌}
 use Rattle.tree.specs.Meaning.{Hash, Code}
 use Rattle.records.specs.Rules.{after}
-use Rattle.schemes.specs.Known.{sha, aes, practice, lamport_diffie_code, winternitz2_code, winternitz4_code}
+use Rattle.schemes.specs.Known.{sha, aes}
+use Rattle.tree.specs.Known.{practice, lamport_diffie_code, winternitz2_code, winternitz4_code}
 use Rattle.schemes.specs.declared.names.HashName.{HashName}
 use Rattle.schemes.specs.declared.names.HashName.TheVariants.{Sha256, Aes128, Practice}
 use Rattle.schemes.specs.declared.names.CodeName.{CodeName}

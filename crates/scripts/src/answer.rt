@@ -1,7 +1,7 @@
 //! Answers.
 
 use crate::NotBegun;
-use verifier::Refusal;
+use records::Refusal;
 
 /// A node that a maker holds.
 #[derive(Clone, Copy)]

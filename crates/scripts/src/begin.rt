@@ -4,9 +4,9 @@ ghost use Rattle.std.specs.Prelude.{◌≡◌};
 ghost use Rattle.scripts.specs.Begins.{start_of, start_rule, StartRefuses};
 ghost use Rattle.records.specs.Rules.{seen};
 
+use records::Refusal;
 use schemes::{Scheme, UnknownScheme};
 use signer::Plan;
-use verifier::Refusal;
 
 /// The numbers of a hash and a code, and what a key is grown from.
 #[derive(Clone, Copy)]
