@@ -11,7 +11,7 @@ use Rattle.sha256.specs.Compress.{compress}
 abbrev pub big_endian : ℕ → ℕ → List ℕ
 big_endian k n = reverse (little_endian k n)
 
--- the zero bytes of the padding of n bytes: the least k with n + 1 + k + 8 a multiple of 64
+-- the zero bytes of the padding after n bytes: the least k with n + 1 + k + 8 a multiple of 64
 abbrev pub zeros : ℕ → ℕ
 zeros n = (119 - n % 64) % 64
 
