@@ -1,5 +1,4 @@
 -- The digits of numbers, of stamps and of codewords.
--- Assumes nothing.
 use Rattle.std.specs.Prelude.{◌≡◌, ℕ, zero, suc, ◌+◌, ◌-◌, ◌*◌, ◌/◌, ◌%◌, ◌^◌, ◌<◌, ◌≤◌, ◌⊎◌, List, [], ◌∷◌, ◌++◌, length, get_or, drop, ◌≢◌, slice_index, slice_index_or, refl}
 use Rattle.std.proofs.Common.{sym, ap, ◌∙◌, inl, inr, ⊎_elim, mod-eq_of_lt, le_of_suc-le-suc, mul-zero, mul-suc, zero-mul, zero-add, mul-le-mul_left, arith, lit<}
 use Rattle.std.proofs.Math.Nat.{mod-one, mul-div_right, mul-sub}
