@@ -43,6 +43,7 @@ ending w (suc n) c = (c / 2 ^ (w * n) % 2 ^ w) ∷ ending w n c
 abbrev pub codeword : ℕ → ℕ → List ℕ → List ℕ
 codeword w n ds = ds ++ ending w n (checksum w ds)
 
--- the Winternitz code with digits of w bits, n of them for the checksum; past them the largest digit
+-- the Winternitz code with digits of w bits, n of them for the checksum; past them the largest
+-- digit
 abbrev pub winternitz : ℕ → ℕ → List ℕ → ℕ → ℕ
 winternitz w n stamp k = slice_index_or (codeword w n (cut w stamp)) k (2 ^ w - 1)

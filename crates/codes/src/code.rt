@@ -4,7 +4,8 @@ ghost use Rattle.std.specs.Prelude.{◌≡◌, ℕ, ◌^◌, ◌<◌, ◌≤◌,
 ghost use Rattle.codes.specs.Codes.{Apart};
 ghost use Rattle.strings.specs.Strings.{Str};
 
-/// A code: which digit a stamp has at a place. Its meaning is its numbers and the function `digits`.
+/// A code: which digit a stamp has at a place. Its meaning is its numbers and the function
+/// `digits`.
 pub trait Code {
     /// The number by which key records name the code.
     const NUMBER: u8;

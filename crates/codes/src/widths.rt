@@ -4,7 +4,8 @@ ghost use Rattle.std.specs.Prelude.{ℕ, ◌+◌, ◌-◌, ◌*◌, ◌/◌, ◌
 ghost use Rattle.codes.specs.Codes.{Width};
 ghost use Rattle.std.proofs.Common.{lit<, lit≤};
 
-/// A width of Winternitz digits, the parameter w of the scheme, and what a code with such digits has.
+/// A width of Winternitz digits, the parameter w of the scheme, and what a code with such digits
+/// has.
 pub trait DigitWidth {
     /// The number by which key records name the code.
     const NUMBER: u8;
