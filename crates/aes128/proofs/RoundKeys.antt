@@ -1,5 +1,4 @@
 -- The round keys: the first is the key, and each other one follows from the one before. And the rounds, one after the other.
--- Assumes nothing.
 use Rattle.std.proofs.Common.{◌≡◌, ℕ, zero, suc, ◌+◌, ◌*◌, ◌/◌, ◌%◌, false, cond, eqb, List, length, get_or, sym, refl, ap, ◌∙◌, add-one, arith}
 use lib.Dec.{eqb-suc-zero}
 use Rattle.std.proofs.lemmas.List.FromFn.{fill_by_all}

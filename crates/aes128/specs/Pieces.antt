@@ -1,5 +1,4 @@
 -- What the parts of the code give: a state by its columns, and a round key from the one before it.
--- Assumes nothing.
 use Rattle.std.specs.Prelude.{ℕ, ◌+◌, ◌%◌, List, [], ◌∷◌, slice_index, slice_index_or}
 use Rattle.strings.specs.Strings.{xor}
 use Rattle.aes128.specs.State.{state, word, column, mixed}
@@ -9,8 +8,12 @@ use Rattle.aes128.specs.Schedule.{rot_word, sub_word, rcon}
 abbrev pub columns : List ℕ → List ℕ → List ℕ → List ℕ → List ℕ
 columns w₀ w₁ w₂ w₃ = state (λ r c. slice_index (slice_index_or (w₀ ∷ w₁ ∷ w₂ ∷ w₃ ∷ []) c []) r)
 
+-- a column, mixed
 abbrev pub mixed_column : List ℕ → List ℕ
-mixed_column w = word (λ r. mixed (slice_index w r) (slice_index w ((r + 1) % 4)) (slice_index w ((r + 2) % 4)) (slice_index w ((r + 3) % 4)))
+mixed_column w =
+    word (λ r.
+    let below : ℕ → ℕ = λ k. slice_index w ((r + k) % 4) in
+    mixed (slice_index w r) (below 1) (below 2) (below 3))
 
 -- each word from the one above it and the one before it
 abbrev pub chained : List ℕ → List ℕ → List ℕ → List ℕ → List ℕ → List ℕ
@@ -22,4 +25,6 @@ chained before w₀ w₁ w₂ w₃ =
 
 -- the key of round n, from that of the round before
 unfoldable pub next_key : List ℕ → ℕ → List ℕ
-next_key key n = chained (xor (sub_word (rot_word (column key 3))) (rcon n)) (column key 0) (column key 1) (column key 2) (column key 3)
+next_key key n =
+    let before = xor (sub_word (rot_word (column key 3))) (rcon n) in
+    chained before (column key 0) (column key 1) (column key 2) (column key 3)

@@ -1,9 +1,9 @@
--- The state of FIPS 197, and the steps of a round. A state is a list of 16 bytes; byte 4c + r stands in row r and column c.
--- Assumes nothing.
-use Rattle.std.specs.Prelude.{ℕ, ◌+◌, ◌*◌, ◌/◌, ◌%◌, List, map, bit_xor, slice_index}
+-- The state of FIPS 197, section 3.4, and the steps of a round. A state is a list of 16 bytes; byte
+-- 4c + r stands in row r and column c.
+use Rattle.std.specs.Prelude.{ℕ, ◌+◌, ◌*◌, ◌/◌, ◌%◌, List, map, slice_index}
 use Rattle.std.specs.List.{range_with_len}
 use Rattle.strings.specs.Strings.{xor}
-use Rattle.aes128.specs.Field.{mul, sub}
+use Rattle.aes128.specs.Field.{◌⊕◌, mul, sub}
 
 -- the byte in row r and column c
 abbrev pub at : List ℕ → ℕ → ℕ → ℕ
@@ -21,23 +21,29 @@ word f = map f (range_with_len 0 4)
 abbrev pub column : List ℕ → ℕ → List ℕ
 column s c = word (λ r. at s r c)
 
+-- SubBytes, section 5.1.1: each byte substituted
 abbrev pub sub_bytes : List ℕ → List ℕ
 sub_bytes s = state (λ r c. sub (at s r c))
 
--- row r moves r places to the left
+-- ShiftRows, section 5.1.2: row r moves r places to the left
 abbrev pub shift_rows : List ℕ → List ℕ
 shift_rows s = state (λ r c. at s r ((c + r) % 4))
 
--- twice a, three times b, c and d
+-- twice a, three times b, c and d in sum
 abbrev pub mixed : ℕ → ℕ → ℕ → ℕ → ℕ
-mixed a b c d = bit_xor (bit_xor (bit_xor (mul 2 a) (mul 3 b)) c) d
+mixed a b c d = mul 2 a ⊕ mul 3 b ⊕ c ⊕ d
 
+-- MixColumns, section 5.1.3: each byte from the four of its column, its own first
 abbrev pub mix_columns : List ℕ → List ℕ
-mix_columns s = state (λ r c. mixed (at s r c) (at s ((r + 1) % 4) c) (at s ((r + 2) % 4) c) (at s ((r + 3) % 4) c))
+mix_columns s =
+    state (λ r c.
+    mixed (at s r c) (at s ((r + 1) % 4) c) (at s ((r + 2) % 4) c) (at s ((r + 3) % 4) c))
 
+-- AddRoundKey, section 5.1.4
 abbrev pub add_round_key : List ℕ → List ℕ → List ℕ
 add_round_key s key = xor s key
 
+-- a round before the last
 unfoldable pub full_round : List ℕ → List ℕ → List ℕ
 full_round s key = add_round_key (mix_columns (shift_rows (sub_bytes s))) key
 

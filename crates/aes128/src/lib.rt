@@ -1,5 +1,7 @@
-//! AES-128 of FIPS 197, and the tree hash that is made from it.
-//! Bytes are substituted by a table, so the places that are read depend on the key and the block: no contract speaks of time.
+//! AES-128, as FIPS 197 defines it, and the tree hash that is made from it. No call refuses.
+//! Sections that are named in this crate are those of FIPS 197.
+//! Bytes are substituted by a table, so the places that are read depend on the key and the block:
+//! no contract speaks of time.
 #![tactic(auto)]
 
 mod cipher;

@@ -1,8 +1,9 @@
-//! Twice a substituted byte, by a table: the columns are mixed by it.
+//! Twice the substitute of a byte, by a table: the columns are mixed by it.
 
 ghost use Rattle.std.specs.Prelude.{◌≡◌};
 ghost use Rattle.aes128.specs.Field.{times_x, sub};
 
+/// Twice the substitute of each byte, in the field of section 4.2.
 const TWICE: [u8; 256] = [
     0xc6, 0xf8, 0xee, 0xf6, 0xff, 0xd6, 0xde, 0x91, 0x60, 0x02, 0xce, 0x56, 0xe7, 0xb5, 0x4d, 0xec,
     0x8f, 0x1f, 0x89, 0xfa, 0xef, 0xb2, 0x8e, 0xfb, 0x41, 0xb3, 0x5f, 0x45, 0x23, 0x53, 0xe4, 0x9b,
@@ -22,7 +23,8 @@ const TWICE: [u8; 256] = [
     0x03, 0x59, 0x09, 0x1a, 0x65, 0xd7, 0x84, 0xd0, 0x82, 0x29, 0x5a, 0x1e, 0x7b, 0xa8, 0x6d, 0x2c,
 ];
 
-/// x times the substituted byte. The place that is read depends on the byte, which may be secret.
+/// Twice the substitute of a byte: x times it in the field. The place that is read depends on the
+/// byte, which may be secret.
 pub(crate) fn sub_twice(b: u8) -> u8
     ensures { result ≡ times_x (sub b) }
 {

@@ -7,7 +7,7 @@ ghost use Rattle.aes128.specs.Pieces.{columns};
 
 use crate::sbox::sub_byte;
 
-/// The column c of a state or a round key.
+/// Column `c` of a state or a round key, from 0 to 3.
 pub(crate) fn column_of(state: &[u8; 16], c: usize) -> [u8; 4]
     requires { c < 4 }
     ensures { result ≡ column state.now c }
@@ -15,6 +15,7 @@ pub(crate) fn column_of(state: &[u8; 16], c: usize) -> [u8; 4]
     state.as_chunks::<4>().0[c]
 }
 
+/// The state or the round key with these four columns.
 pub(crate) fn from_columns(a: &[u8; 4], b: &[u8; 4], c: &[u8; 4], d: &[u8; 4]) -> [u8; 16]
     ensures { result ≡ columns a.now b.now c.now d.now }
 {
@@ -24,12 +25,14 @@ pub(crate) fn from_columns(a: &[u8; 4], b: &[u8; 4], c: &[u8; 4], d: &[u8; 4]) -
     ]
 }
 
+/// RotWord of section 5.2: each byte moves one place to the left.
 pub(crate) fn rot_word(w: &[u8; 4]) -> [u8; 4]
     ensures { result ≡ rot_word w.now }
 {
     [w[1], w[2], w[3], w[0]]
 }
 
+/// SubWord of section 5.2: each byte substituted.
 pub(crate) fn sub_word(w: &[u8; 4]) -> [u8; 4]
     ensures { result ≡ sub_word w.now }
 {

@@ -7,7 +7,7 @@ ghost use Rattle.std.proofs.Common.{rules};
 use crate::Code;
 use crate::bits::read_bits;
 
-/// Lamport-Diffie: each bit of the stamp, followed by one minus it.
+/// The Lamport-Diffie code, number 1: each bit of the stamp, followed by one minus it.
 pub struct LamportDiffie;
 
 impl Code for LamportDiffie {

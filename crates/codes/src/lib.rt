@@ -1,4 +1,5 @@
-//! Codes: each turns a stamp of 16 bytes and a place into a digit.
+//! Codes of one-time signatures: each turns a stamp of 16 bytes and a place into a digit. A chain
+//! is stepped up to its digit, so a code has one chain for each place. No call refuses.
 #![tactic(auto)]
 
 mod bits;

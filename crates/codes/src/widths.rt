@@ -4,48 +4,56 @@ ghost use Rattle.std.specs.Prelude.{ℕ, ◌+◌, ◌-◌, ◌*◌, ◌/◌, ◌
 ghost use Rattle.codes.specs.Codes.{Width};
 ghost use Rattle.std.proofs.Common.{lit<, lit≤};
 
-/// How wide digits are, and what a code with such digits has.
+/// A width of Winternitz digits, the parameter w of the scheme, and what a code with such digits
+/// has.
 pub trait DigitWidth {
-    /// The code's own number.
+    /// The number by which key records name the code.
     const NUMBER: u8;
 
+    /// The same number, in clauses.
     ghost NUMBER: { ℕ };
 
-    /// The bits of a digit.
+    /// The bits of a digit, w.
     const WIDTH: usize;
 
+    /// The same width, in clauses.
     ghost WIDTH: { ℕ };
 
-    /// How many digits the checksum takes.
+    /// How many ending digits there are: those of the checksum.
     const ENDS: usize;
 
+    /// The same count, in clauses.
     ghost ENDS: { ℕ };
 
-    /// The levels of the tree inside a leaf.
+    /// The levels of the tree inside a leaf, which joins the ends of the chains.
     const LEVELS: u8;
 
+    /// The same levels, in clauses.
     ghost LEVELS: { ℕ };
 
+    /// The number is one byte.
     ghost number_range: { NUMBER < 256 };
 
-    // A whole number of digits makes a byte.
+    /// A whole number of digits makes a byte.
     ghost wide: { Width WIDTH };
 
-    // The largest digit lies from 1 to 15.
+    /// The largest digit lies from 1 to 15.
     ghost top_range: { (1 ≤ 2 ^ WIDTH - 1) × (2 ^ WIDTH - 1 ≤ 15) };
 
-    // The checksum fits its digits, which take less than 16 bits.
+    /// The checksum fits the ending digits.
     ghost room: { 128 / WIDTH * 2 ^ WIDTH < 2 ^ (WIDTH * ENDS) };
 
+    /// The ending digits take less than 16 bits.
     ghost short: { WIDTH * ENDS < 16 };
 
-    // All digits fit the levels inside a leaf.
+    /// All digits fit the levels inside a leaf.
     ghost count_range: { (1 ≤ 128 / WIDTH + ENDS) × (128 / WIDTH + ENDS ≤ 2 ^ LEVELS) };
 
+    /// The levels lie from 1 to 8.
     ghost level_range: { (1 ≤ LEVELS) × (LEVELS ≤ 8) };
 }
 
-/// 64 digits of a stamp, and 5 of its checksum.
+/// Digits of two bits: 64 of a stamp, and 5 of its checksum.
 pub struct TwoBits;
 
 impl DigitWidth for TwoBits {
@@ -80,7 +88,7 @@ impl DigitWidth for TwoBits {
     ghost level_range = { (lit≤ tt, lit≤ tt) };
 }
 
-/// 32 digits of a stamp, and 3 of its checksum.
+/// Digits of four bits: 32 of a stamp, and 3 of its checksum.
 pub struct FourBits;
 
 impl DigitWidth for FourBits {

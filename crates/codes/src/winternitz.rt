@@ -4,27 +4,29 @@ ghost use Rattle.std.specs.Prelude.{◌≡◌, ◌+◌, ◌-◌, ◌*◌, ◌/�
 ghost use Rattle.codes.specs.Codes.{checksum, cut, winternitz};
 ghost use Rattle.codes.specs.Laws.{winternitz-within, winternitz-past, winternitz-apart};
 
-use crate::bits::read_bits;
+use crate::bits::{STAMP_BITS, read_bits};
 use crate::{Code, DigitWidth, FourBits, TwoBits};
 use std::marker::PhantomData;
 
-/// Winternitz: the stamp in digits of a width, and then its checksum.
+/// The Winternitz code over a width: the stamp in digits of that width, and then its checksum in
+/// such digits, the highest first.
 pub struct Winternitz<W> {
+    /// The width. Nothing makes a value of a code.
     pub width: PhantomData<W>,
 }
 
-/// 64 digits of the stamp, 5 of its checksum.
+/// The Winternitz code with w = 2, number 2: 64 digits of the stamp, and 5 of its checksum.
 pub type Winternitz2 = Winternitz<TwoBits>;
 
-/// 32 digits of the stamp, 3 of its checksum.
+/// The Winternitz code with w = 4, number 3: 32 digits of the stamp, and 3 of its checksum.
 pub type Winternitz4 = Winternitz<FourBits>;
 
 impl<W: DigitWidth> Winternitz<W> {
-    // What the stamp's digits lack to 2 ^ WIDTH, in sum.
+    // The checksum of a stamp: what its digits lack to 2 ^ WIDTH, in sum.
     fn checksum(stamp: &[u8; 16]) -> u16
         ensures { result ≡ checksum W.WIDTH (cut W.WIDTH stamp.now) }
     {
-        (0..128 / W::WIDTH)
+        (0..STAMP_BITS / W::WIDTH)
             .map(
                 |j: usize| -> u16
                     requires { j < 128 / W.WIDTH }
@@ -39,7 +41,7 @@ impl<W: DigitWidth> Code for Winternitz<W> {
 
     ghost NUMBER = { W.NUMBER };
 
-    const COUNT: usize = 128 / W::WIDTH + W::ENDS;
+    const COUNT: usize = STAMP_BITS / W::WIDTH + W::ENDS;
 
     ghost COUNT = { 128 / W.WIDTH + W.ENDS };
 
@@ -68,7 +70,7 @@ impl<W: DigitWidth> Code for Winternitz<W> {
     ghost apart = { winternitz-apart W.WIDTH W.ENDS W.wide W.room };
 
     fn digit(stamp: &[u8; 16], place: usize) -> u8 {
-        let front = 128 / W::WIDTH;
+        let front = STAMP_BITS / W::WIDTH;
         if place < front {
             return read_bits(stamp, W::WIDTH, place);
         }

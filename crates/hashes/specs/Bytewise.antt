@@ -1,5 +1,4 @@
--- Strings that are given byte by byte.
--- Assumes nothing.
+-- What the practice hash gives, byte by byte, is a string.
 use Rattle.std.specs.Prelude.{ℕ, ◌+◌, ◌/◌, ◌%◌, ◌<◌, List, slice_index, refl}
 use Rattle.std.proofs.Common.{mod-lt, arith}
 use Rattle.std.proofs.lemmas.Nat.{xor_lt}
@@ -13,10 +12,13 @@ bytewise-str f h = (refl, bytes-map f (range_with_len 0 16) h)
 
 pub step-str : (k s : List ℕ) → Str k → Str s → Str (practice_step k s)
 step-str k s a b =
-    bytewise-str (step_byte k s)
-    (λ j. let x = byte-below s j b.1 in xor_lt 8 (slice_index s j / 2) (slice_index k j) (omega arith) (byte-below k j a.1))
+    bytewise-str (step_byte k s) (λ j.
+    let byte = byte-below s j b.1 in
+    xor_lt 8 (slice_index s j / 2) (slice_index k j) (omega arith) (byte-below k j a.1))
 
 pub pair-str : (k l r : List ℕ) → Str k → Str l → Str r → Str (practice_pair k l r)
 pair-str k l r a b c =
-    bytewise-str (pair_byte k l r)
-    (λ j. xor_lt 8 ((slice_index l j + slice_index r j) % 256) (slice_index k j) (mod-lt (slice_index l j + slice_index r j) (omega arith)) (byte-below k j a.1))
+    bytewise-str (pair_byte k l r) (λ j.
+    let sum = slice_index l j + slice_index r j in
+    let small : sum % 256 < 256 = mod-lt sum (omega arith) in
+    xor_lt 8 (sum % 256) (slice_index k j) small (byte-below k j a.1))

@@ -1,5 +1,4 @@
 -- The practice hash: simple enough to follow by hand, and easy to find collisions of.
--- Assumes nothing.
 use Rattle.std.specs.Prelude.{ℕ, ◌+◌, ◌/◌, ◌%◌, List, map, bit_xor, slice_index}
 use Rattle.std.specs.List.{range_with_len}
 
@@ -7,16 +6,19 @@ use Rattle.std.specs.List.{range_with_len}
 abbrev pub bytewise : (ℕ → ℕ) → List ℕ
 bytewise f = map f (range_with_len 0 16)
 
--- byte j of step: half of byte j of the string, rounded down, under the key
+-- byte j of a step: half of byte j of the string, rounded down, exclusive or byte j of the key
 abbrev pub step_byte : List ℕ → List ℕ → ℕ → ℕ
 step_byte key s j = bit_xor (slice_index s j / 2) (slice_index key j)
 
--- byte j of pair: the sum of both bytes j modulo 256, under the key
+-- byte j of a pair: the sum of both bytes j modulo 256, exclusive or byte j of the key
 abbrev pub pair_byte : List ℕ → List ℕ → List ℕ → ℕ → ℕ
-pair_byte key left right j = bit_xor ((slice_index left j + slice_index right j) % 256) (slice_index key j)
+pair_byte key left right j =
+    bit_xor ((slice_index left j + slice_index right j) % 256) (slice_index key j)
 
+-- the step, of key and string
 abbrev pub practice_step : List ℕ → List ℕ → List ℕ
 practice_step key s = bytewise (step_byte key s)
 
+-- the pair, of key, left string and right string
 abbrev pub practice_pair : List ℕ → List ℕ → List ℕ → List ℕ
 practice_pair key left right = bytewise (pair_byte key left right)

@@ -6,7 +6,8 @@ ghost use Rattle.std.proofs.Common.{rules};
 
 use crate::{ChainHash, TreeHash};
 
-/// A hash that can be followed by hand. It keeps nothing secret.
+/// The tree hash number 3, which can be followed by hand. It keeps nothing secret, and collisions
+/// of it are found at will.
 pub struct Practice;
 
 impl ChainHash for Practice {
@@ -20,11 +21,11 @@ impl ChainHash for Practice {
 
     ghost gives = { step-str };
 
-    // Half of each byte, rounded down, under the key.
+    /// Half of each byte of the string, rounded down, exclusive or the key's byte at its place.
     fn step(key: &[u8; 16], string: &[u8; 16]) -> [u8; 16] {
         let mut out = *string;
-        for (j, k) in key.iter().enumerate() {
-            out[j] = out[j] / 2 ^ *k;
+        for (j, mask) in key.iter().enumerate() {
+            out[j] = out[j] / 2 ^ *mask;
         }
         out
     }
@@ -35,11 +36,11 @@ impl TreeHash for Practice {
 
     ghost joins = { pair-str };
 
-    // The sum of both bytes at each place, modulo 256, under the key.
+    /// The sum of both bytes at each place, modulo 256, exclusive or the key's byte there.
     fn pair(key: &[u8; 16], left: &[u8; 16], right: &[u8; 16]) -> [u8; 16] {
         let mut out = *left;
-        for (j, r) in right.iter().enumerate() {
-            out[j] = out[j].wrapping_add(*r) ^ key[j];
+        for (j, byte) in right.iter().enumerate() {
+            out[j] = out[j].wrapping_add(*byte) ^ key[j];
         }
         out
     }

@@ -1,5 +1,4 @@
 -- The rounds, one at a time and in groups.
--- Assumes nothing.
 use Rattle.std.proofs.Common.{◌≡◌, ℕ, zero, suc, ◌+◌, ◌*◌, ◌≤◌, List, length, take, drop, sym, refl, ap, ◌∙◌, add-zero, add-suc, add-one, drop-cons, arith}
 use Rattle.std.specs.List.{fold, zip}
 use Rattle.std.specs.Simd.{first_chunks}

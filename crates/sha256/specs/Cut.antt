@@ -1,5 +1,4 @@
--- SHA-256 cut to 16 bytes is a string.
--- Assumes nothing.
+-- SHA-256 cut to its first 16 bytes is a string.
 use Rattle.std.specs.Prelude.{ℕ, ◌%◌, ◌<◌, List, [], ◌∷◌, take, refl}
 use Rattle.std.proofs.Common.{mod-lt, arith}
 use Rattle.std.specs.List.{flat_map}
@@ -15,7 +14,9 @@ word_bytes n =
 
 words-bytes : (ws : List ℕ) → Bytes (flat_map (big_endian 4) ws)
 words-bytes [] = tt
-words-bytes (w ∷ ws) = All-append (λ b. b < 256) (big_endian 4 w) (flat_map (big_endian 4) ws) (word_bytes w) (words-bytes ws)
+words-bytes (w ∷ ws) =
+    let rest = flat_map (big_endian 4) ws in
+    All-append (λ b. b < 256) (big_endian 4 w) rest (word_bytes w) (words-bytes ws)
 
 digest-cut : (s : State) → Str (take 16 (digest s))
 unfolding digest

@@ -1,9 +1,9 @@
-//! The compression function: a hash value and a block to the next hash value.
+//! The compression function of section 6.2.2: a hash value and a block to the next hash value.
 
 ghost use Rattle.std.specs.Prelude.{◌≡◌};
 ghost use Rattle.sha256.specs.Compress as spec;
 
-use crate::constants::ROUND_WORDS;
+use crate::constants::{BLOCK, ROUND_WORDS, ROUNDS};
 use crate::functions::{big_sigma0, big_sigma1, ch, maj};
 use crate::schedule::message_schedule;
 use crate::state::State;
@@ -31,7 +31,8 @@ fn round(s: State, k: u32, w: u32) -> State
     }
 }
 
-// Four rounds, of these constants and words: so few are unrolled, and the eight words then move less.
+// Four rounds, of these constants and words: so few are unrolled, and the eight words of the state
+// then move less.
 fn four_rounds(start: State, constants: &[u32; 4], words: &[u32; 4]) -> State
     ensures { result ≡ spec.rounds_of start constants.now words.now }
 {
@@ -42,7 +43,7 @@ fn four_rounds(start: State, constants: &[u32; 4], words: &[u32; 4]) -> State
 }
 
 // All rounds, four by four.
-fn rounds(start: State, schedule: &[u32; 64]) -> State
+fn rounds(start: State, schedule: &[u32; ROUNDS]) -> State
     ensures { result ≡ spec.rounds 64 0 start schedule.now }
 {
     let (constants, _) = ROUND_WORDS.as_chunks::<4>();
@@ -53,7 +54,7 @@ fn rounds(start: State, schedule: &[u32; 64]) -> State
         .fold(start, |s, (k, w)| four_rounds(s, k, w))
 }
 
-// Word by word, modulo 2^32.
+// The sum of two states, word by word, modulo 2^32.
 fn added(s: State, t: State) -> State
     ensures { result ≡ spec.added s t }
 {
@@ -69,7 +70,8 @@ fn added(s: State, t: State) -> State
     }
 }
 
-pub(crate) fn compress(s: State, block: &[u8; 64]) -> State
+/// The hash value after a block, from the hash value `s` before it.
+pub(crate) fn compress(s: State, block: &[u8; BLOCK]) -> State
     ensures { result ≡ spec.compress s block.now }
 {
     let schedule = message_schedule(block);

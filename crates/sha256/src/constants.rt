@@ -1,8 +1,20 @@
-//! The constants of SHA-256, as FIPS 180-4 prints them.
+//! The sizes and the constants of SHA-256, as FIPS 180-4 prints them.
 
 use crate::state::State;
 
-/// The initial hash value.
+/// The bytes of a word.
+pub(crate) const WORD: usize = 4;
+
+/// The bytes of a block.
+pub(crate) const BLOCK: usize = 64;
+
+/// The rounds of a compression. Each has a constant, and a word of the message schedule.
+pub(crate) const ROUNDS: usize = 64;
+
+/// The bytes of a hash value.
+pub(crate) const DIGEST: usize = 32;
+
+/// The initial hash value, section 5.3.3.
 pub(crate) const INITIAL: State = State {
     a: 0x6a09e667,
     b: 0xbb67ae85,
@@ -14,8 +26,8 @@ pub(crate) const INITIAL: State = State {
     h: 0x5be0cd19,
 };
 
-/// One word for each round.
-pub(crate) const ROUND_WORDS: [u32; 64] = [
+/// The constants of the rounds, in their order, section 4.2.2.
+pub(crate) const ROUND_WORDS: [u32; ROUNDS] = [
     0x428a2f98, 0x71374491, 0xb5c0fbcf, 0xe9b5dba5, 0x3956c25b, 0x59f111f1, 0x923f82a4, 0xab1c5ed5,
     0xd807aa98, 0x12835b01, 0x243185be, 0x550c7dc3, 0x72be5d74, 0x80deb1fe, 0x9bdc06a7, 0xc19bf174,
     0xe49b69c1, 0xefbe4786, 0x0fc19dc6, 0x240ca1cc, 0x2de92c6f, 0x4a7484aa, 0x5cb0a9dc, 0x76f988da,

@@ -1,4 +1,5 @@
-//! SHA-256 (FIPS 180-4), and the tree hash that is made of it.
+//! SHA-256, as FIPS 180-4 defines it, and the tree hash that is made of it. No call refuses.
+//! Sections that are named in this crate are those of FIPS 180-4.
 #![tactic(auto)]
 
 mod compress;

@@ -1,5 +1,4 @@
 -- The laws of strings, and of rows of strings in a buffer.
--- Assumes nothing.
 use Rattle.std.proofs.Common.{◌≡◌, ℕ, zero, suc, ◌+◌, ◌-◌, ◌*◌, ◌/◌, ◌%◌, ◌^◌, ◌<◌, ◌≤◌, ◌≢◌, List, [], ◌∷◌, ◌++◌, map, length, get_or, set, take, drop, replicate, sym, refl, ap, ◌∙◌, le_of_suc-le-suc, mod-eq_of_lt, zero-add, add-one, mul-zero, mul-suc, arith, rules}
 use native.Mathlib.Nat.{mod-one, pow-succ', one-le-pow}
 use lib.Bits.{bit_xor, xor_assoc, xor_self, xor_zero_r, xor_lt}

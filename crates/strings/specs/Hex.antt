@@ -1,5 +1,4 @@
 -- Bytes as text.
--- Assumes nothing.
 use Rattle.std.specs.Prelude.{ℕ, ◌+◌, ◌/◌, ◌%◌, if◌then◌else◌, List, [], ◌∷◌, nat_lt}
 use Rattle.std.specs.List.{flat_map}
 

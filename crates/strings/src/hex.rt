@@ -1,4 +1,4 @@
-//! Bytes in hex.
+//! Bytes as hex digits.
 
 ghost use Rattle.std.specs.Prelude.{Some};
 ghost use Rattle.std.specs.Fmt.{DisplaysOnOk};
@@ -6,11 +6,12 @@ ghost use Rattle.strings.specs.Hex.{two_digits, hex_text};
 
 use std::fmt;
 
-/// Bytes, printed as hex digits, two for each, in lower case.
+/// Any number of bytes, which `Display` prints as hex digits: two for each byte, the higher one
+/// first, in lower case, with nothing between them.
 #[derive(Clone, Copy)]
 pub struct Hex<'a>(pub &'a [u8]);
 
-// A byte, as two digits.
+// Prints a byte as two digits.
 fn write_byte<W: fmt::Write>(byte: u8, f: &mut fmt::Formatter<W>) -> fmt::Result
     ensures { DisplaysOnOk W.write_str_gives f.old result (Some (two_digits byte)) f.new }
 {
