@@ -1,7 +1,11 @@
--- What the calls on whole keys answer and leave: each lives a key's life from its source on, by the rules of verifier and signer.
-use Rattle.std.specs.Prelude.{ℕ, false, true, zero, suc, List, replicate, Some, None, Ok, Err, Option, Result}
+-- What the calls on whole keys answer and leave: each lives a key's life from its source on, by the
+-- rules of verifier and signer.
+use Rattle.std.specs.Prelude.{ℕ, false, true, zero, suc, List, replicate, Some, None, Ok, Err}
+use Rattle.std.specs.Prelude.{Option, Result}
 use Rattle.growth.specs.declared.origin.Origin.{Origin}
-use Rattle.rules.specs.Rules.{plan_rule, begin_rule, grow_state, held_rule, finish_state, key_answer, key_output, sign_answer, sign_state, sign_output, skip_state, trace_answer, trace_report}
+use Rattle.rules.specs.Rules.{plan_rule, begin_rule, grow_state, held_rule, finish_state}
+use Rattle.rules.specs.Rules.{key_answer, key_output, sign_answer, sign_state, sign_output}
+use Rattle.rules.specs.Rules.{skip_state, trace_answer, trace_report}
 use Rattle.rules.specs.States.{Making, Signing}
 use Rattle.tree.specs.Meaning.{Hash, Code}
 use Rattle.tree.specs.Nodes.{raise}
@@ -91,7 +95,8 @@ unfoldable pub grows : Hash → Code → ℕ → Making → Making
 grows hash code zero m = m
 grows hash code (suc n) m = grow_state hash code (grows hash code n m)
 
--- begin, n calls of grow, and whether a node is held at a level, with its position; and that node's string
+-- begin, n calls of grow, and whether a node is held at a level, with its position; and that node's
+-- string
 abbrev pub held_numbers : Option (ℕ × List ℕ) → ℕ × ℕ
 held_numbers (Some x) = (1, x.0)
 held_numbers None = (0, 0)

@@ -80,8 +80,8 @@ pub data HandedOut : History → ℕ → Type 0 where
   newest : {call : Event} {w : History} {i : ℕ} → HandsOut call i → HandedOut (call ∷ w) i
   older : {call : Event} {w : History} {i : ℕ} → HandedOut w i → HandedOut (call ∷ w) i
 
--- a call issues these bytes as the record of leaf i for this stamp: a sign call was given the stamp,
--- was not refused, answered a length and i, and left the bytes at the start of its output
+-- a call issues these bytes as the record of leaf i for this stamp: a sign call was given the
+-- stamp, was not refused, answered a length and i, and left the bytes at the start of its output
 pub data Issues : Event → ℕ → List ℕ → List ℕ → Type 0 where
   issues : {stamp out after : List ℕ} {n i : ℕ} →
       Issues (sign stamp out (Ok (n, i)) after) i (take n after) stamp

@@ -36,15 +36,15 @@ Revealed code w i k e =
     ⊎ ((bytes : List ℕ) × (stamp : List ℕ) × RevealedBy code w i k e bytes stamp)
 
 -- an answer of trace
-abbrev pub Traces : Type 0
-Traces = Result (ℕ × ℕ × ℕ) Refusal
+abbrev pub TraceAnswer : Type 0
+TraceAnswer = Result (ℕ × ℕ × ℕ) Refusal
 
 -- the verdict is 0, whatever the two numbers and the report
-abbrev pub VerdictOurs : Traces → Type 0
+abbrev pub VerdictOurs : TraceAnswer → Type 0
 VerdictOurs r = (x : ℕ) × (y : ℕ) × (r ≡ Ok (0, x, y))
 
 -- trace says that the record is ours, as leaf i: it answers 0, i and 0, and the report is zeros
-abbrev pub SaysOurs : ℕ → Traces → List ℕ → Type 0
+abbrev pub SaysOurs : ℕ → TraceAnswer → List ℕ → Type 0
 SaysOurs i r report = (r ≡ Ok (0, i, 0)) × (report ≡ replicate report_size 0)
 
 -- a report of two different inputs of pair with one value
@@ -72,7 +72,7 @@ pub record Unrevealed (hash : Hash) (code : Code) (w : History) (s : Signing)
 -- trace shows where the hash gave way, for a record with leaf number i: its answer r is the verdict
 -- and two numbers, and its report shows the break
 pub data Breaks (hash : Hash) (code : Code) (w : History) (s : Signing) (stamp bytes : List ℕ)
-    (i : ℕ) (r : Traces) (report : List ℕ) : Type 0 where
+    (i : ℕ) (r : TraceAnswer) (report : List ℕ) : Type 0 where
   pair_break : (a b : ℕ) → r ≡ Ok (1, a, b) → PairBreak hash s.origin.hash_key report →
       Breaks hash code w s stamp bytes i r report
   step_break : (k e : ℕ) → r ≡ Ok (2, k, e) → StepBreak hash s.origin.hash_key report →
@@ -84,15 +84,15 @@ pub data Breaks (hash : Hash) (code : Code) (w : History) (s : Signing) (stamp b
 -- the answer to a record with leaf number i and the report are those of the verdict v, which is on
 -- what is to be found first
 pub record ShowsFirst (hash : Hash) (code : Code) (s : Signing) (stamp bytes : List ℕ) (i : ℕ)
-    (r : Traces) (report : List ℕ) (v : Verdict) : Type 0 where
+    (r : TraceAnswer) (report : List ℕ) (v : Verdict) : Type 0 where
   pub first : Found hash code (traced_by s stamp i bytes) v
   pub answers : r ≡ Ok (verdict_numbers i v)
   pub reports : report ≡ verdict_report v
 
--- of a history w that leads to the signer s, which answers r to a stamp and a record and leaves this
--- report
+-- of a history w that leads to the signer s, which answers r to a stamp and a record and leaves
+-- this report
 pub record Promise (hash : Hash) (code : Code) (w : History) (s : Signing) (stamp bytes : List ℕ)
-    (r : Traces) (report : List ℕ) : Type 0 where
+    (r : TraceAnswer) (report : List ℕ) : Type 0 where
   pub once : Once w
   -- verify accepts each record issued, with its stamp, as the leaf it was issued for
   pub accepted : (i : ℕ) (issued m : List ℕ) → Issued w i issued m →
@@ -110,7 +110,7 @@ pub record Promise (hash : Hash) (code : Code) (w : History) (s : Signing) (stam
       × Breaks hash code w s stamp bytes i r report
 
 -- the promise, for every history that leads to this signer, in service or retired
-abbrev pub Promised : Hash → Code → Signing → List ℕ → List ℕ → Traces → List ℕ → Type 0
+abbrev pub Promised : Hash → Code → Signing → List ℕ → List ℕ → TraceAnswer → List ℕ → Type 0
 Promised hash code s stamp bytes r report =
     (o : Origin) (w : History) (x : State) → IsSigner x s → Lived hash code o w x →
     Promise hash code w s stamp bytes r report

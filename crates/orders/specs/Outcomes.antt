@@ -1,10 +1,12 @@
 -- Orders one after the other: a stamp and a release record each.
-use Rattle.std.specs.Prelude.{ℕ, zero, suc, ◌<◌, ◌≤◌, Bool, if◌then◌else◌, ◌&&◌, List, [], ◌∷◌, length, take, drop, Err, Result, ◌==◌, nat_le, nat_lt}
+use Rattle.std.specs.Prelude.{ℕ, zero, suc, ◌<◌, ◌≤◌, Bool, if◌then◌else◌, ◌&&◌, List, [], ◌∷◌}
+use Rattle.std.specs.Prelude.{length, take, drop, Err, Result, ◌==◌, nat_le, nat_lt}
 use Rattle.records.specs.Records.{field}
 use Rattle.records.specs.declared.refusal.Refusal.{Refusal}
 use Rattle.records.specs.declared.refusal.Refusal.TheVariants.{Length}
 
--- at least 10 bytes are left, the length field is at least 10, and all the bytes that it names are there
+-- at least 10 bytes are left, the length field is at least 10, and all the bytes that it names are
+-- there
 abbrev pub whole : List ℕ → Bool
 whole bytes = nat_le 10 (length bytes) && (nat_le 10 (field bytes 0 4) && nat_le (field bytes 0 4) (length bytes))
 
@@ -18,7 +20,8 @@ first_record bytes = take (record_length bytes) bytes
 abbrev pub after_record : List ℕ → List ℕ
 after_record bytes = drop (record_length bytes) bytes
 
--- `Outcomes verify bytes answers`: the orders in `bytes` have these answers, where verify answers a stamp and a record
+-- `Outcomes verify bytes answers`: the orders in `bytes` have these answers, where verify answers a
+-- stamp and a record
 pub data Outcomes (verify : List ℕ → List ℕ → Result ℕ Refusal) : List ℕ → List (Result ℕ Refusal) → Type 0 where
   -- no bytes, no order
   none : Outcomes verify [] []

@@ -23,14 +23,16 @@ pub record Reported : Type 0 where
 abbrev pub Refused : Refusal → Reported → Type 0
 Refused e report = (report.key ≡ Err e) × (report.orders ≡ [])
 
--- what open answers of the key record decides: the key's numbers and height, and the answer of verify to each order
+-- what open answers of the key record decides: the key's numbers and height, and the answer of
+-- verify to each order
 abbrev pub Checked : Hash → Code → Result Key Refusal → List ℕ → Reported → Type 0
 Checked hash code (Ok key) orders report =
     (report.key ≡ Ok (record { hash = hash.number; code = code.number; height = key.height }))
     × Outcomes (verify_rule hash code key) orders report.orders
 Checked hash code (Err e) orders report = Refused e report
 
--- a key record that names a hash or code that is not known: refused as such, unless its header is refused first
+-- a key record that names a hash or code that is not known: refused as such, unless its header is
+-- refused first
 abbrev pub Unknown : Result (List ℕ) Refusal → Reported → Type 0
 Unknown (Ok body) report = Refused Parameters report
 Unknown (Err e) report = Refused e report

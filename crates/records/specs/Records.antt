@@ -11,7 +11,8 @@ abbrev pub framed : RecordKind → List ℕ → List ℕ
 framed kind body =
     little_endian 4 (6 + length body) ++ (little_endian 2 (kind_number kind) ++ body)
 
--- a key record: hash number, code number, height and a spare 0 in a byte each; hash key, masks, root
+-- a key record: hash number, code number, height and a spare 0 in a byte each; hash key, masks,
+-- root
 abbrev pub key_bytes : ℕ → ℕ → ℕ → List ℕ → List ℕ → List ℕ → List ℕ
 key_bytes hash code height hash_key masks root =
     framed kind.Key (hash ∷ (code ∷ (height ∷ (0 ∷ (hash_key ++ (masks ++ root))))))

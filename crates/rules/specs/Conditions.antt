@@ -29,7 +29,8 @@ NoRoom out size = length out < size
 abbrev pub WrongSkip : Signing → ℕ → Type 0
 WrongSkip s leaf = (leaf < s.next) ⊎ (2 ^ s.origin.height < leaf)
 
--- 12: the root rebuilt from a record, under the signer's own parameters, is unlike the signer's root
+-- 12: the root rebuilt from a record, under the signer's own parameters, is unlike the signer's
+-- root
 abbrev pub WrongOwnRoot : Hash → Code → Signing → List ℕ → List ℕ → Type 0
 WrongOwnRoot hash code s stamp bytes =
     rebuilt hash code (parameters s.origin) (leaf_of bytes) stamp (row_of bytes) ≢ s.root

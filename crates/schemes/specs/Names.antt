@@ -7,7 +7,8 @@ use Rattle.tree.specs.Known.{practice, lamport_diffie_code, winternitz2_code, wi
 use Rattle.schemes.specs.declared.names.HashName.{HashName}
 use Rattle.schemes.specs.declared.names.HashName.TheVariants.{Sha256, Aes128, Practice}
 use Rattle.schemes.specs.declared.names.CodeName.{CodeName}
-use Rattle.schemes.specs.declared.names.CodeName.TheVariants.{LamportDiffie, Winternitz2, Winternitz4}
+use Rattle.schemes.specs.declared.names.CodeName.TheVariants.{LamportDiffie, Winternitz2}
+use Rattle.schemes.specs.declared.names.CodeName.TheVariants.{Winternitz4}
 use Rattle.schemes.specs.declared.scheme.Scheme.{Scheme}
 use Rattle.schemes.specs.declared.unknown.UnknownScheme.{UnknownScheme}
 

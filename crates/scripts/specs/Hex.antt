@@ -1,5 +1,6 @@
 -- Bytes as hex digits.
-use Rattle.std.specs.Prelude.{ℕ, ◌+◌, ◌-◌, ◌*◌, if◌then◌else◌, ◌&&◌, List, [], ◌∷◌, length, Some, None, Option, ◌==◌, nat_le}
+use Rattle.std.specs.Prelude.{ℕ, ◌+◌, ◌-◌, ◌*◌, if◌then◌else◌, ◌&&◌, List, [], ◌∷◌, length, Some}
+use Rattle.std.specs.Prelude.{None, Option, ◌==◌, nat_le}
 
 -- what a digit stands for: 0 to 9 from 48 on, a to f from 97 on
 abbrev pub hex_digit : ℕ → Option ℕ

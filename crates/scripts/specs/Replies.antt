@@ -1,5 +1,6 @@
 -- What a session answers to a call, and what it leaves.
-use Rattle.std.specs.Prelude.{ℕ, zero, suc, List, [], ◌∷◌, ◌++◌, take, replicate, Some, None, Ok, Err, Option, Result}
+use Rattle.std.specs.Prelude.{ℕ, zero, suc, List, [], ◌∷◌, ◌++◌, take, replicate, Some, None, Ok}
+use Rattle.std.specs.Prelude.{Err, Option, Result}
 use Rattle.std.specs.List.{flat_map}
 use Rattle.codes.specs.declared.Code as code_trait
 use Rattle.hashes.specs.declared.ChainHash as chain_hash
@@ -12,7 +13,8 @@ use Rattle.tree.specs.Meaning.{Hash, Code}
 use Rattle.records.specs.declared.refusal.Refusal.{Refusal}
 use Rattle.scripts.specs.Calls.{Said, grow, nodes, finish, key, sign, skip, retire, trace}
 use Rattle.scripts.specs.declared.answer.Answer.{Answer}
-use Rattle.scripts.specs.declared.answer.Answer.TheVariants.{Begun, Grown, Nodes, Finished, Key, Signed, Next}
+use Rattle.scripts.specs.declared.answer.Answer.TheVariants.{Begun, Grown, Nodes, Finished, Key}
+use Rattle.scripts.specs.declared.answer.Answer.TheVariants.{Signed, Next}
 use Rattle.scripts.specs.declared.answer.Answer.TheVariants.{Retired, Verdict, Refused}
 use Rattle.scripts.specs.declared.answer.Answer.TheVariants.{UnknownScheme, NotNow, NotACall}
 use Rattle.scripts.specs.declared.answer.Node.{Node}

@@ -46,8 +46,8 @@ climb parent sibling zero b s = s
 climb parent sibling (suc a) b s =
     climb parent sibling a (b / 2) (above parent a b s (sibling (suc a)))
 
--- the one-time string at place k of a leaf with `count` chains, of which `shown` gives the string at
--- the height of `digit`: raised to the top digit, and zero past the last chain
+-- the one-time string at place k of a leaf with `count` chains, of which `shown` gives the string
+-- at the height of `digit`: raised to the top digit, and zero past the last chain
 abbrev pub one_time : (List ℕ → List ℕ) → ℕ → ℕ → (ℕ → ℕ) → (ℕ → List ℕ) → ℕ → List ℕ
 one_time step count top digit shown k =
     if nat_lt k count then raise step (top - digit k) (shown k) else zero_string
