@@ -1,8 +1,8 @@
-//! record_cases: grows the key of each case, signs, and compares both records with those that an independent model wrote.
-#![tactic(auto)]
+//! Grows the key of each case, signs, and compares both records with those that an independent model wrote.
 
 ghost use Rattle.std.specs.Prelude.{⊤};
 
+use crate::verdict;
 use anyhow::anyhow;
 use codes::Code;
 use hashes::TreeHash;
@@ -58,10 +58,6 @@ impl<'a> Case<'a> {
     }
 }
 
-fn verdict(holds: bool) -> &'static str {
-    if holds { "pass" } else { "fail" }
-}
-
 // Grows the key of a case and compares its records.
 #[derive(Clone, Copy)]
 struct Compare<'a, 'c> {
@@ -97,7 +93,7 @@ impl Task for Compare<'_, '_> {
 }
 
 // The case of the hash and the code with these numbers.
-fn run(rt: &HostRuntime, hash: u8, code: u8) -> anyhow::Result<()> {
+fn run_case(rt: &HostRuntime, hash: u8, code: u8) -> anyhow::Result<()> {
     let path = format!(in rt.alloc(); "records_{hash}_{code}.in")?;
     let bytes = fs::read(rt, path.as_str())?;
     let Some(case) = Case::read(bytes.as_slice()) else {
@@ -107,10 +103,10 @@ fn run(rt: &HostRuntime, hash: u8, code: u8) -> anyhow::Result<()> {
     Scheme::numbered(hash, code)?.run(&mut Compare { rt, case })
 }
 
-fn main(rt: HostRuntime) -> anyhow::Result<()> {
+pub(crate) fn run(rt: &HostRuntime) -> anyhow::Result<()> {
     for hash in 1..=3 {
         for code in 1..=3 {
-            run(&rt, hash, code)?;
+            run_case(rt, hash, code)?;
         }
     }
     Ok(())

@@ -1,6 +1,6 @@
-//! vectors: runs published example vectors of SHA-256, and those of FIPS 197, and prints pass or fail for each.
-#![tactic(auto)]
+//! Runs published example vectors of SHA-256, and those of FIPS 197, and prints pass or fail for each.
 
+use crate::verdict;
 use aes128::{encrypt, last_round_key};
 use sha256::sha256;
 
@@ -59,10 +59,6 @@ const MILLION_DIGEST: [u8; 32] = [
 const KEY: [u8; 16] = [
     0x2b, 0x7e, 0x15, 0x16, 0x28, 0xae, 0xd2, 0xa6, 0xab, 0xf7, 0x15, 0x88, 0x09, 0xcf, 0x4f, 0x3c,
 ];
-
-fn verdict(holds: bool) -> &'static str {
-    if holds { "pass" } else { "fail" }
-}
 
 impl Message<'_> {
     fn run(&self, rt: &HostRuntime) -> anyhow::Result<()> {
@@ -125,7 +121,7 @@ fn aes128_vectors(rt: &HostRuntime) -> anyhow::Result<()> {
     Ok(())
 }
 
-fn main(rt: HostRuntime) -> anyhow::Result<()> {
-    sha256_vectors(&rt)?;
-    aes128_vectors(&rt)
+pub(crate) fn run(rt: &HostRuntime) -> anyhow::Result<()> {
+    sha256_vectors(rt)?;
+    aes128_vectors(rt)
 }
