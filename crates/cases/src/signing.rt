@@ -1,15 +1,16 @@
-//! record_cases: grows the key of each case, signs, and compares both records with those that an independent model wrote.
-#![tactic(auto)]
+//! Grows the key of each case, signs, and compares both records with those that an independent model wrote.
 
 ghost use Rattle.std.specs.Prelude.{⊤};
 
+use crate::verdict;
 use anyhow::anyhow;
 use codes::Code;
 use hashes::TreeHash;
+use records::{LONGEST_RELEASE, Refusal};
 use schemes::{Scheme, Task};
 use signer::{Maker, Plan, Signer};
 use std::fs;
-use records::Refusal;
+use tree::rows::{MASKS, WORK};
 use verifier::{open, verify};
 
 // What a key is grown from, a leaf and a stamp; and then the key record that they give, and the release record of the leaf for
@@ -19,7 +20,7 @@ struct Case<'a> {
     height: u8,
     seed: &'a [u8; 16],
     hash_key: &'a [u8; 16],
-    masks: &'a [u8; 512],
+    masks: &'a [u8; MASKS],
     leaf: u8,
     stamp: &'a [u8; 16],
     records: &'a [u8],
@@ -47,7 +48,7 @@ impl<'a> Case<'a> {
     // The key of the case.
     fn grown<H: TreeHash, C: Code>(&self) -> Result<Signer<H, C>, Refusal> {
         let plan = Plan::new(self.height)?;
-        let mut work = [0; 4096];
+        let mut work = [0; WORK];
         Ok(Maker::begin(plan, *self.seed, *self.hash_key, *self.masks).finish(&mut work))
     }
 
@@ -57,10 +58,6 @@ impl<'a> Case<'a> {
             .get(at..)
             .is_some_and(|records| records.starts_with(record))
     }
-}
-
-fn verdict(holds: bool) -> &'static str {
-    if holds { "pass" } else { "fail" }
 }
 
 // Grows the key of a case and compares its records.
@@ -79,14 +76,14 @@ impl Task for Compare<'_, '_> {
     fn run<H: TreeHash, C: Code>(&mut self) -> anyhow::Result<()> {
         let case = self.case;
         let mut signer = case.grown::<H, C>()?;
-        let mut work = [0; 4096];
+        let mut work = [0; WORK];
         let mut key = [0; 1024];
-        let mut release = [0; 8192];
+        let mut release = [0; LONGEST_RELEASE];
         let size = signer.key(&mut key)?;
         let key = &key[..size.min(1024)];
         signer.skip(u16::from(case.leaf))?;
         let (size, _) = signer.sign(case.stamp, &mut release, &mut work)?;
-        let release = &release[..size.min(8192)];
+        let release = &release[..size.min(LONGEST_RELEASE)];
         let key_verdict = verdict(case.has(key, 0));
         let release_verdict = verdict(case.has(release, key.len()));
         print!(self.rt; "key record {key_verdict}, release record {release_verdict}, ")?;
@@ -98,7 +95,7 @@ impl Task for Compare<'_, '_> {
 }
 
 // The case of the hash and the code with these numbers.
-fn run(rt: &HostRuntime, hash: u8, code: u8) -> anyhow::Result<()> {
+fn run_case(rt: &HostRuntime, hash: u8, code: u8) -> anyhow::Result<()> {
     let path = format!(in rt.alloc(); "records_{hash}_{code}.in")?;
     let bytes = fs::read(rt, path.as_str())?;
     let Some(case) = Case::read(bytes.as_slice()) else {
@@ -108,10 +105,10 @@ fn run(rt: &HostRuntime, hash: u8, code: u8) -> anyhow::Result<()> {
     Scheme::numbered(hash, code)?.run(&mut Compare { rt, case })
 }
 
-fn main(rt: HostRuntime) -> anyhow::Result<()> {
+pub(crate) fn run(rt: &HostRuntime) -> anyhow::Result<()> {
     for hash in 1..=3 {
         for code in 1..=3 {
-            run(&rt, hash, code)?;
+            run_case(rt, hash, code)?;
         }
     }
     Ok(())

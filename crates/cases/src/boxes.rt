@@ -1,10 +1,7 @@
-//! box_cases: the report of each input in the folder of cases. An independent model made those named `box_HASH_CODE`;
-//! the others are edits of one of them, each for a refusal. Then the longest, by readers that falter.
-#![tactic(auto)]
+//! The report of each stored input. An independent model made those named `box_HASH_CODE`; the others are edits of one of
+//! them, each for a refusal. Then the longest, by readers that falter.
 
-mod faltering;
-
-use faltering::Faltering;
+use crate::faltering::Faltering;
 use orders::{LIMIT, check};
 use std::fs::File;
 use std::io::ErrorKind;
@@ -53,12 +50,12 @@ const ERRORS: [ErrorKind; 11] = [
 
 // The longest case, read by a reader that falters: its report, or the error.
 fn falter(
-    rt: HostRuntime,
+    rt: &HostRuntime,
     room: &mut [u8; LIMIT],
     bytes: u32,
     error: ErrorKind,
 ) -> anyhow::Result<()> {
-    let file = File::open(&rt, "cut_at_the_limit.in")?;
+    let file = File::open(rt, "cut_at_the_limit.in")?;
     println!(rt; "cut_at_the_limit, failing after {bytes} bytes")?;
     match check(&mut Faltering::new(file, bytes, error), room) {
         Ok(report) => print!(rt; "{report}")?,
@@ -67,11 +64,11 @@ fn falter(
     Ok(())
 }
 
-fn main(rt: HostRuntime) -> anyhow::Result<()> {
+pub(crate) fn run(rt: &HostRuntime) -> anyhow::Result<()> {
     let mut room = [0; LIMIT];
     for case in CASES {
         let path = format!(in rt.alloc(); "{case}.in")?;
-        let mut input = File::open(&rt, path.as_str())?;
+        let mut input = File::open(rt, path.as_str())?;
         let report = check(&mut input, &mut room)?;
         println!(rt; "{case}")?;
         print!(rt; "{report}")?;
