@@ -37,8 +37,8 @@ impl Children {
 }
 
 impl Parameters<'_> {
-    /// Two children under the bitmasks of `level`: exclusive or of the left one with string 2 * level
-    /// of the masks, and of the right one with the string after it.
+    /// Two children under the bitmasks of `level`: each is joined by exclusive or with the mask of
+    /// its side. The left one is string number 2 * level of the masks, the right one is after it.
     pub fn masked(&self, level: usize, children: &Children) -> Children
         requires { 32 * level + 32 ≤ length self.now.masks.now }
         ensures left { result.left ≡ xor children.now.left

@@ -30,8 +30,9 @@ impl Parameters<'_> {
         self.parent::<H>(level, &children.left, &children.right)
     }
 
-    /// The root over leaf number `leaf`, whose node is `start` (`climb` in specs/). `row` is the row of
-    /// a release of that leaf: after its chains it has the siblings of the authentication path.
+    /// The root over leaf number `leaf`, whose node is `start` (`climb` in specs/). `row` is the
+    /// row of a release of that leaf: after its chains it has the siblings of the authentication
+    /// path.
     pub fn climb_path<H: TreeHash, C: Code>(
         &self,
         leaf: u16,

@@ -6,8 +6,8 @@ ghost use Rattle.tree.specs.Rows.{chain_in, sibling_place, sibling_in, sibling_l
 use codes::Code;
 use strings::string_at;
 
-/// The bytes of a work buffer: a string of 16 bytes for each place of a leaf, of which there are 2^8
-/// at most.
+/// The bytes of a work buffer: a string of 16 bytes for each place of a leaf, of which there are
+/// 2^8 at most.
 pub const WORK: usize = 4096;
 
 /// The bytes of the masks of a key: a left and a right one of 16 bytes for each of 16 levels, as
@@ -22,8 +22,8 @@ pub fn chain_in(row: &[u8], chain: usize) -> [u8; 16]
     string_at(row, chain)
 }
 
-/// The place of the sibling at `level` in the row of a release under a key of this height: after the
-/// strings of the chains, the siblings stand from level `height` up to level 1.
+/// The place of the sibling at `level` in the row of a release under a key of this height: after
+/// the strings of the chains, the siblings stand from level `height` up to level 1.
 pub fn sibling_place<C: Code>(height: u8, level: usize) -> usize
     requires { level ≤ height }
     ensures { result ≡ sibling_place C.Code.COUNT height level }
@@ -40,8 +40,8 @@ pub fn sibling_in<C: Code>(height: u8, row: &[u8], level: usize) -> [u8; 16]
     string_at(row, sibling_place::<C>(height, level))
 }
 
-/// The level of the sibling at `place` in the row of a release under a key of this height; the place
-/// is past those of the chains.
+/// The level of the sibling at `place` in the row of a release under a key of this height; the
+/// place is past those of the chains.
 pub fn sibling_level<C: Code>(height: u8, place: usize) -> usize
     requires { (C.Code.COUNT ≤ place) × (place < C.Code.COUNT + height) }
     ensures { result ≡ sibling_level C.Code.COUNT height place }
