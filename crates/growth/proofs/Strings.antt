@@ -10,7 +10,7 @@ use Rattle.tree.specs.Laws.{HashLaws}
 use Rattle.tree.specs.Meaning.{Hash, Code}
 use Rattle.tree.specs.Nodes.{raise, node, one_time, parent_at}
 use Rattle.growth.specs.Grown.{secret, chain_string, bottom, parameters}
-use Rattle.tree.specs.Rows.{sibling_level}
+use Rattle.tree.specs.Rows.{masks_size, sibling_level}
 use Rattle.growth.specs.Shown.{sibling_of, shown_string}
 use Rattle.growth.specs.declared.origin.Origin.{Origin}
 
@@ -28,7 +28,7 @@ pub record Strings (hash : Hash) (o : Origin) : Type 0 where
   pub laws : HashLaws hash
   pub seeded : Str o.seed
   pub keyed : Str o.hash_key
-  pub masked : (length o.masks ≡ 512) × Bytes o.masks
+  pub masked : (length o.masks ≡ masks_size) × Bytes o.masks
 
 -- chains, one-time strings and parents of strings
 module _ (hash : Hash) (o : Origin) (all : Strings hash o) where
