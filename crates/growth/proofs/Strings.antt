@@ -1,9 +1,7 @@
 -- What a tree and a release are made of are strings.
-use Rattle.std.proofs.Common.{◌≡◌, ℕ, zero, suc, ◌+◌, ◌-◌, ◌*◌, ◌/◌, ◌^◌, ◌<◌, ◌≤◌, ltb, List, [], ◌∷◌, ◌++◌, length, take, drop, sym, refl, ap, ◌∙◌, ⊎_elim, zero-add, add-one, arith}
-use Rattle.std.specs.List.{range_with_len, flat_map}
-use Rattle.std.proofs.lemmas.List.FromFn.{map-range_with_len_more}
-use Rattle.std.proofs.lemmas.List.{length-append, map-id, flat_map_more, take_all, drop_at, take-append-drop, length-take-le}
-use Rattle.std.proofs.lemmas.Bool.{cases_lt, cond_both, ltb-true}
+use Rattle.std.proofs.Common.{◌≡◌, ℕ, zero, suc, ◌+◌, ◌-◌, ◌*◌, ◌/◌, ◌^◌, ◌<◌, ◌≤◌, ltb, List, length, take, drop, sym, ap, ◌∙◌, arith}
+use Rattle.std.proofs.lemmas.List.{take-append-drop, length-take-le}
+use Rattle.std.proofs.lemmas.Bool.{cond_both, ltb-true}
 use Rattle.strings.specs.Strings.{Bytes, Str, string_at, zero_string, numeral, xor}
 use Rattle.strings.proofs.Laws.{xor-str, numeral-str, string_at-str, piece-front}
 use Rattle.tree.specs.Laws.{HashLaws}

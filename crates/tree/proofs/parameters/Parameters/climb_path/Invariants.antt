@@ -1,4 +1,4 @@
-use Rattle.std.proofs.Common.{◌≡◌, ℕ, ◌+◌, ◌-◌, ◌≤◌, List}
+use Rattle.std.proofs.Common.{◌≡◌, ℕ, ◌≤◌, List}
 use Rattle.tree.specs.Meaning.{hash_by}
 use Rattle.tree.specs.Nodes.{parent_at, climb}
 use Rattle.tree.specs.Rows.{sibling_in}
