@@ -17,9 +17,11 @@ use codes::Code;
 use hashes::ChainHash;
 use records::{RecordKind, Refusal, Release, body_of, parts_of};
 
-/// Reads a release record as it lies in `bytes`, under an opened key. Refuses, in this order: with 6, `Length`, and 7, `Kind`, as
-/// `open`; with 8, `Parameters`, a key that was opened with another hash number, code number or number of levels; with 10, `Layout`,
-/// another byte count than 8 + 16 (count + height); with 11, `Leaf`, a leaf number of 2^height or more.
+/// Reads a release record as it lies in `bytes`, under an opened key: its leaf number and its row
+/// of strings (`read_rule` in specs/). Refuses, in this order: with 6, `Length`, and 7, `Kind`, as
+/// `open`; with 8, `Parameters`, a key that was opened with another hash number, code number or
+/// number of levels; with 10, `Layout`, another byte count than 8 + 16 (count + height); with 11,
+/// `Leaf`, a leaf number of 2^height or more.
 pub fn read_under<'a, H: ChainHash, C: Code>(
     key: &OpenedKey<'_>,
     bytes: &'a [u8],
