@@ -1,15 +1,15 @@
 //! Comparing the hash chains of a leaf: the signer's and those that the record leads to.
 
 ghost use Rattle.std.specs.Prelude.{◌≡◌, ℕ, ◌-◌, ◌<◌, ◌≤◌};
-ghost use Rattle.compare.specs.Search.{last_from, step_find, hidden_find, height_search};
-ghost use Rattle.compare.specs.Search.{hidden_find_at, chain_search, hidden_search};
-ghost use Rattle.compare.specs.Sides.{revealed_height, our_chain, their_chain, their_one_time};
-ghost use Rattle.compare.specs.Views.{traced_of};
-ghost use Rattle.growth.specs.Grown.{leaf_string};
 ghost use Rattle.strings.specs.Strings.{string_at};
 ghost use Rattle.tree.specs.Meaning.{hash_of, code_of};
 ghost use Rattle.tree.specs.Nodes.{raise};
 ghost use Rattle.tree.specs.Rows.{most_places};
+ghost use Rattle.growth.specs.Grown.{leaf_string};
+ghost use Rattle.compare.specs.Search.{last_from, step_find, hidden_find, height_search};
+ghost use Rattle.compare.specs.Search.{hidden_find_at, chain_search, hidden_search};
+ghost use Rattle.compare.specs.Sides.{revealed_height, our_chain, their_chain, their_one_time};
+ghost use Rattle.compare.specs.Views.{traced_of};
 
 use crate::reports::four_strings;
 use crate::{Compared, Find, Sides, Subject};

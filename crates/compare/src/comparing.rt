@@ -1,12 +1,12 @@
 //! Comparing a record with what the signer's seed and ledger give.
 
 ghost use Rattle.std.specs.Prelude.{◌≡◌};
+ghost use Rattle.tree.specs.Meaning.{hash_of, code_of};
+ghost use Rattle.tree.specs.Rebuilt.{rebuilt};
+ghost use Rattle.growth.specs.Grown.{parameters};
 ghost use Rattle.compare.specs.Found.{Found};
 ghost use Rattle.compare.specs.Search.{chosen, found};
 ghost use Rattle.compare.specs.Views.{traced_of};
-ghost use Rattle.growth.specs.Grown.{parameters};
-ghost use Rattle.tree.specs.Meaning.{hash_of, code_of};
-ghost use Rattle.tree.specs.Rebuilt.{rebuilt};
 
 use crate::{Find, Subject, Verdict};
 use codes::Code;

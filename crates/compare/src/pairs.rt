@@ -1,13 +1,13 @@
 //! Comparing nodes: parents of masked children, and the L-tree inside a leaf.
 
 ghost use Rattle.std.specs.Prelude.{◌≡◌, ℕ, ◌+◌, ◌*◌, ◌^◌, ◌<◌, ◌≤◌, length};
-ghost use Rattle.compare.specs.Search.{first_from, child_find, depth_search};
-ghost use Rattle.compare.specs.Views.{traced_of};
-ghost use Rattle.growth.specs.Grown.{parameters};
 ghost use Rattle.strings.specs.Strings.{string_at};
 ghost use Rattle.tree.specs.Meaning.{hash_of};
 ghost use Rattle.tree.specs.Nodes.{parent_at, node};
 ghost use Rattle.tree.specs.Views.{parameters_of};
+ghost use Rattle.growth.specs.Grown.{parameters};
+ghost use Rattle.compare.specs.Search.{first_from, child_find, depth_search};
+ghost use Rattle.compare.specs.Views.{traced_of};
 
 use crate::reports::four_strings;
 use crate::{Compared, Find, Sides, Subject};

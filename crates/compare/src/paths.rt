@@ -1,10 +1,10 @@
 //! Comparing the way from the leaf to the root, along the authentication path.
 
 ghost use Rattle.std.specs.Prelude.{◌≡◌, ◌+◌, ◌-◌, ◌/◌, ◌%◌, ◌^◌, ◌<◌, if◌then◌else◌, nat_eq};
+ghost use Rattle.tree.specs.Meaning.{hash_of, code_of};
 ghost use Rattle.compare.specs.Search.{first_from, node_find_at, level_search};
 ghost use Rattle.compare.specs.Sides.{our_node, their_node};
 ghost use Rattle.compare.specs.Views.{traced_of};
-ghost use Rattle.tree.specs.Meaning.{hash_of, code_of};
 
 use crate::pairs::join_both;
 use crate::{Compared, Sides, Subject};

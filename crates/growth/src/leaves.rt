@@ -1,10 +1,10 @@
 //! The nodes of a tree, grown from its seed.
 
 ghost use Rattle.std.specs.Prelude.{◌≡◌, ℕ, ◌^◌, ◌<◌, ◌≤◌};
-ghost use Rattle.growth.specs.Grown.{leaf_string, node_at};
 ghost use Rattle.strings.specs.Strings.{string_at};
 ghost use Rattle.tree.specs.Meaning.{hash_of, code_of};
 ghost use Rattle.tree.specs.Rows.{most_places};
+ghost use Rattle.growth.specs.Grown.{leaf_string, node_at};
 
 use crate::Tree;
 use codes::Code;

@@ -1,8 +1,8 @@
 //! What a release of a leaf shows: strings of its chains, and its authentication path.
 
 ghost use Rattle.std.specs.Prelude.{◌≡◌, ◌+◌, ◌^◌, ◌<◌};
-ghost use Rattle.growth.specs.Shown.{sibling_of, shown_string};
 ghost use Rattle.tree.specs.Meaning.{hash_of, code_of};
+ghost use Rattle.growth.specs.Shown.{sibling_of, shown_string};
 
 use crate::Tree;
 use codes::Code;

@@ -1,8 +1,8 @@
 //! The nodes that are held while a tree is grown (the treehash stack).
 
 ghost use Rattle.std.specs.Prelude.{◌≡◌, ◌+◌, ◌^◌, ◌<◌};
-ghost use Rattle.growth.specs.Grown.{Holds, with_leaf};
 ghost use Rattle.tree.specs.Meaning.{hash_of, code_of};
+ghost use Rattle.growth.specs.Grown.{Holds, with_leaf};
 
 use crate::Tree;
 use codes::Code;

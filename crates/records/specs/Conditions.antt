@@ -23,11 +23,11 @@ WrongNumbers hash code bytes = (hash_number_of bytes ≢ hash) ⊎ (code_number_
 abbrev pub WrongHeight : List ℕ → Type 0
 WrongHeight bytes = (height_of bytes < 1) ⊎ ((8 < height_of bytes) ⊎ (spare_of bytes ≢ 0))
 
--- 10: another byte count than a key record of its height has, and than a release record has under a
--- key of height h
+-- 10, of a key record: another byte count than one of its height has
 abbrev pub WrongKeyLength : ℕ → List ℕ → Type 0
 WrongKeyLength levels bytes = length bytes ≢ key_length (height_of bytes) levels
 
+-- 10, of a release record: another byte count than one has under a key of height h
 abbrev pub WrongReleaseLength : ℕ → ℕ → List ℕ → Type 0
 WrongReleaseLength count h bytes = length bytes ≢ release_length count h
 

@@ -47,32 +47,38 @@ release_length count h = 8 + 16 * (count + h)
 abbrev pub longest_release : ℕ
 longest_release = 4232
 
--- the parts of a key record: hash number, code number, height and spare byte, one byte each
+-- the parts of a key record: its hash number
 abbrev pub hash_number_of : List ℕ → ℕ
 hash_number_of bytes = slice_index bytes 6
 
+-- its code number
 abbrev pub code_number_of : List ℕ → ℕ
 code_number_of bytes = slice_index bytes 7
 
+-- its height
 abbrev pub height_of : List ℕ → ℕ
 height_of bytes = slice_index bytes 8
 
+-- its spare byte
 abbrev pub spare_of : List ℕ → ℕ
 spare_of bytes = slice_index bytes 9
 
--- its hash key, its masks, which stand between that and the root, and its root, the last 16 bytes
+-- its hash key
 abbrev pub hash_key_of : List ℕ → List ℕ
 hash_key_of bytes = take 16 (drop 10 bytes)
 
+-- its masks (bitmasks), which stand between the hash key and the root
 abbrev pub masks_of : List ℕ → List ℕ
 masks_of bytes = take (length bytes - beside_masks) (drop 26 bytes)
 
+-- its root, the last 16 bytes
 abbrev pub root_of : List ℕ → List ℕ
 root_of bytes = take 16 (drop (length bytes - 16) bytes)
 
--- the parts of a release record: its leaf number, and its row of strings
+-- the parts of a release record: its leaf number
 abbrev pub leaf_of : List ℕ → ℕ
 leaf_of bytes = field bytes 6 2
 
+-- its row of strings
 abbrev pub row_of : List ℕ → List ℕ
 row_of bytes = drop 8 bytes

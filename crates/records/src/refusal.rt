@@ -56,7 +56,7 @@ impl Refusal {
     }
 }
 
-// A refusal prints as its number.
+/// A refusal prints as its number, in decimal digits.
 impl fmt::Display for Refusal {
     ghost output = { λ refusal. Some (decimal (refusal_number refusal)) };
 

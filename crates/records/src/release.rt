@@ -1,11 +1,11 @@
 //! Release records: reading and writing.
 
 ghost use Rattle.std.specs.Prelude.{◌≡◌, ℕ, ◌+◌, ◌*◌, ◌<◌, ◌≤◌, ◌++◌, List, length, take, drop};
+ghost use Rattle.tree.specs.Rows.{row_from};
 ghost use Rattle.records.specs.Reads.{ReadsReleases};
 ghost use Rattle.records.specs.Records.{release_length, release_bytes};
 ghost use Rattle.records.specs.Rules.{seen, parts_rule, release_rule};
 ghost use Rattle.records.specs.Views.{shown_by};
-ghost use Rattle.tree.specs.Rows.{row_from};
 
 use crate::header::{body_of, write_header};
 use crate::{RecordKind, Refusal, layout, release_length};

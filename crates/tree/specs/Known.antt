@@ -1,6 +1,6 @@
 -- The practice hash and the codes, as values: each with its number in key records.
-use Rattle.codes.specs.Codes.{lamport_diffie, winternitz}
 use Rattle.hashes.specs.Practice.{practice_step, practice_pair}
+use Rattle.codes.specs.Codes.{lamport_diffie, winternitz}
 use Rattle.tree.specs.Meaning.{Hash, Code}
 
 -- the practice hash

@@ -1,7 +1,7 @@
 -- The laws of hashes and codes, as values: what the traits ask of each impl.
 use Rattle.std.specs.Prelude.{◌≡◌, ℕ, ◌^◌, ◌≤◌, List}
-use Rattle.codes.specs.Codes.{Apart}
 use Rattle.strings.specs.Strings.{Str}
+use Rattle.codes.specs.Codes.{Apart}
 use Rattle.tree.specs.Meaning.{Hash, Code}
 
 -- strings step and pair to strings

@@ -1,12 +1,12 @@
 //! Reading a release record under an opened key.
 
 ghost use Rattle.std.specs.Prelude.{◌≡◌, ℕ, true, List};
+ghost use Rattle.tree.specs.Meaning.{Code, code_of};
 ghost use Rattle.records.specs.Causes.{Refuses};
 ghost use Rattle.records.specs.Keys.{Key};
 ghost use Rattle.records.specs.Reads.{ReadsReleases};
 ghost use Rattle.records.specs.Rules.{seen};
 ghost use Rattle.records.specs.Views.{shown_by};
-ghost use Rattle.tree.specs.Meaning.{Code, code_of};
 ghost use Rattle.verifier.specs.Conditions.{Opening, OpenedWith, read_causes};
 ghost use Rattle.verifier.specs.Rules.{suited, read_rule};
 ghost use Rattle.verifier.specs.Views.{key_of};

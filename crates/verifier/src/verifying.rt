@@ -1,9 +1,9 @@
 //! Verifying a release.
 
 ghost use Rattle.std.specs.Prelude.{◌≡◌, ℕ, List};
+ghost use Rattle.tree.specs.Meaning.{Hash, Code, hash_of, code_of};
 ghost use Rattle.records.specs.Causes.{Refuses};
 ghost use Rattle.records.specs.Keys.{Key};
-ghost use Rattle.tree.specs.Meaning.{Hash, Code, hash_of, code_of};
 ghost use Rattle.verifier.specs.Conditions.{Opening, OpenedWith, verify_causes};
 ghost use Rattle.verifier.specs.Rules.{verify_rule};
 ghost use Rattle.verifier.specs.Views.{key_of};

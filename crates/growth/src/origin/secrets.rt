@@ -2,10 +2,10 @@
 //! them.
 
 ghost use Rattle.std.specs.Prelude.{◌≡◌, length};
-ghost use Rattle.growth.specs.Grown.{parameters, secret, chain_string};
 ghost use Rattle.tree.specs.Meaning.{hash_of};
 ghost use Rattle.tree.specs.Rows.{masks_size};
 ghost use Rattle.tree.specs.Views.{parameters_of};
+ghost use Rattle.growth.specs.Grown.{parameters, secret, chain_string};
 
 use crate::Origin;
 use hashes::TreeHash;

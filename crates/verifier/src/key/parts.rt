@@ -1,8 +1,8 @@
 //! The parts of an opened key.
 
 ghost use Rattle.std.specs.Prelude.{◌≡◌};
-ghost use Rattle.records.specs.Records.{root_of};
 ghost use Rattle.tree.specs.Views.{parameters_of};
+ghost use Rattle.records.specs.Records.{root_of};
 ghost use Rattle.verifier.specs.Rules.{parameters_in};
 ghost use Rattle.verifier.specs.Views.{key_of};
 
