@@ -6,6 +6,7 @@ use Rattle.std.proofs.lemmas.Grind.{pow_more}
 use Rattle.std.specs.Option.{option_or}
 use Rattle.tree.specs.Meaning.{Hash, Code}
 use Rattle.tree.specs.Nodes.{node, parent_at}
+use Rattle.tree.specs.Rows.{most_places}
 use Rattle.tree.proofs.Laws.{node-moved}
 use Rattle.growth.specs.Grown.{leaf_string, parameters}
 use Rattle.growth.proofs.Paths.{shr-none}
@@ -31,7 +32,7 @@ module _ (hash : Hash) (code : Code) (t : Traced) where
   parent = parent_at hash (parameters t.origin)
 
   -- of one side, whose strings a row holds: its node c levels below the leaf's, at level a and position n
-  node-is : l ≤ 8 → (side : ℕ → ℕ → List ℕ) (strings row : ℕ → List ℕ) → ((c q : ℕ) → c ≤ l → q < 2 ^ c → side (h + c) (t.leaf * 2 ^ c + q) ≡ node parent strings (h + c) (l - c) q) → ((k : ℕ) → k < 256 → row k ≡ strings k) → (c q a n : ℕ) → c ≤ l → q < 2 ^ c → h + c ≡ a → t.leaf * 2 ^ c + q ≡ n → node parent row a (l - c) q ≡ side a n
+  node-is : l ≤ 8 → (side : ℕ → ℕ → List ℕ) (strings row : ℕ → List ℕ) → ((c q : ℕ) → c ≤ l → q < 2 ^ c → side (h + c) (t.leaf * 2 ^ c + q) ≡ node parent strings (h + c) (l - c) q) → ((k : ℕ) → k < most_places → row k ≡ strings k) → (c q a n : ℕ) → c ≤ l → q < 2 ^ c → h + c ≡ a → t.leaf * 2 ^ c + q ≡ n → node parent row a (l - c) q ≡ side a n
   node-is few side strings row inner holds c q a n le lt level place =
       let all : c + (l - c) ≡ l = omega arith in
       let most = pow_mono {i = l} {j = 8} few in
@@ -40,7 +41,7 @@ module _ (hash : Hash) (code : Code) (t : Traced) where
       ∙ sym (inner c q le lt)
       ∙ (λ i. side (level i) (place i))
 
-  module _ (ours theirs : ℕ → List ℕ) (few : l ≤ 8) (our-row : (k : ℕ) → k < 256 → ours k ≡ leaf_string hash code t.origin t.leaf k) (their-row : (k : ℕ) → k < 256 → theirs k ≡ their_one_time hash code t k) where
+  module _ (ours theirs : ℕ → List ℕ) (few : l ≤ 8) (our-row : (k : ℕ) → k < most_places → ours k ≡ leaf_string hash code t.origin t.leaf k) (their-row : (k : ℕ) → k < most_places → theirs k ≡ their_one_time hash code t k) where
     abbrev depth : ℕ → Option Find
     depth = depth_search hash (parameters t.origin) t.leaf l ours theirs
 

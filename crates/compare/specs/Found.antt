@@ -39,18 +39,19 @@ pub record Hidden (code : Code) (t : Traced) (k : ℕ) : Type 0 where
   pub below : code.digit t.stamp k < revealed_height code t.entered k
 
 module _ (hash : Hash) (code : Code) (t : Traced) where
-  -- there is none of a kind
+  -- there is no node break
   abbrev pub NoNode : Type 0
   NoNode = (a b : ℕ) → NodeBreak hash code t a b → ⊥
 
+  -- there is no chain break
   abbrev pub NoChain : Type 0
   NoChain = (k e : ℕ) → ChainBreak hash code t k e → ⊥
 
+  -- there is no chain whose string was not revealed
   abbrev pub NoHidden : Type 0
   NoHidden = (k : ℕ) → Hidden code t k → ⊥
 
-  -- the report of each: the signer's masked children and then the record's; the signer's string and
-  -- then the record's; the signer's string; unused bytes are zero
+  -- the report of a node: the signer's masked children, left and right, and then the record's
   abbrev pub node_report : ℕ → ℕ → List ℕ
   node_report a b =
       left_input hash code t (our_node hash code t) a b
@@ -58,22 +59,26 @@ module _ (hash : Hash) (code : Code) (t : Traced) where
       ++ (left_input hash code t (their_node hash code t) a b
       ++ right_input hash code t (their_node hash code t) a b))
 
+  -- the report of a chain: the signer's string and then the record's; unused bytes are zero
   abbrev pub chain_report : ℕ → ℕ → List ℕ
   chain_report k e =
       our_chain hash code t k e ++ (their_chain hash code t k e ++ (zero_string ++ zero_string))
 
+  -- the report of a string that was not revealed: the signer's string; unused bytes are zero
   abbrev pub hidden_report : ℕ → List ℕ
   hidden_report k =
       our_chain hash code t k (code.digit t.stamp k)
       ++ (zero_string ++ (zero_string ++ zero_string))
 
-  -- the verdict on each, with where it is and its report
+  -- the verdict on a node: its level and position, and its report
   abbrev pub node_verdict : ℕ → ℕ → Verdict
   node_verdict a b = Node (record { first = a; second = b; report = node_report a b })
 
+  -- the verdict on a chain: its number and the height, and its report
   abbrev pub chain_verdict : ℕ → ℕ → Verdict
   chain_verdict k e = Chain (record { first = k; second = e; report = chain_report k e })
 
+  -- the verdict on a string that was not revealed: its chain and height, and its report
   abbrev pub hidden_verdict : ℕ → Verdict
   hidden_verdict k =
       Unrevealed
@@ -113,17 +118,18 @@ pub data Found (hash : Hash) (code : Code) (t : Traced) : Verdict → Type 0 whe
       Found hash code t (hidden_verdict hash code t k)
   ours : NoneFound hash code t → Found hash code t Ours
 
--- the numbers that trace answers: the verdict, and where; and its report
+-- the numbers that trace answers: the verdict, and where
 abbrev pub verdict_numbers : ℕ → Verdict → ℕ × ℕ × ℕ
 verdict_numbers leaf Ours = (0, leaf, 0)
 verdict_numbers leaf (Node f) = (1, f.first, f.second)
 verdict_numbers leaf (Chain f) = (2, f.first, f.second)
 verdict_numbers leaf (Unrevealed f) = (3, f.first, f.second)
 
--- how many bytes a report has
+-- how many bytes a report has: four strings
 abbrev pub report_size : ℕ
 report_size = 64
 
+-- the report of a verdict: zeros where the record is ours
 abbrev pub verdict_report : Verdict → List ℕ
 verdict_report Ours = replicate report_size 0
 verdict_report (Node f) = f.report

@@ -14,11 +14,12 @@ use Rattle.compare.specs.declared.verdict.Find.{Find}
 use Rattle.compare.specs.declared.verdict.Verdict.{Verdict}
 use Rattle.compare.specs.declared.verdict.Verdict.TheVariants.{Ours, Node, Chain, Unrevealed}
 
--- the first find at n places from a on, and the last
+-- the first find at n places from a on
 unfoldable pub first_from : (ℕ → Option Find) → ℕ → ℕ → Option Find
 first_from find a zero = None
 first_from find a (suc n) = option_or (find a) (first_from find (suc a) n)
 
+-- the last find at n places from a on
 unfoldable pub last_from : (ℕ → Option Find) → ℕ → ℕ → Option Find
 last_from find a zero = None
 last_from find a (suc n) = option_or (find (a + n)) (last_from find a n)
@@ -70,42 +71,51 @@ chosen None None (Some f) = Unrevealed f
 chosen None None None = Ours
 
 module _ (hash : Hash) (code : Code) (t : Traced) where
+  -- the find at the node of level a, position b: its children on both sides
   abbrev pub node_find_at : ℕ → ℕ → Option Find
   node_find_at a b =
       child_find hash (parameters t.origin) a b
       (our_node hash code t (a + 1) (2 * b)) (our_node hash code t (a + 1) (2 * b + 1))
       (their_node hash code t (a + 1) (2 * b)) (their_node hash code t (a + 1) (2 * b + 1))
 
-  -- of level a, the places above the leaf or within it: how many, and the first
+  -- of level a, how many places stand above the leaf or within it
   abbrev pub width : ℕ → ℕ
   width a = 2 ^ (a - t.origin.height)
 
+  -- of level a, the first of these places
   abbrev pub first_place : ℕ → ℕ
   first_place a = t.leaf / 2 ^ (t.origin.height - a) * width a
 
+  -- the first find at these places of level a
   abbrev pub level_search : ℕ → Option Find
   level_search a = first_from (node_find_at a) (first_place a) (width a)
 
+  -- the first find of all levels, from the root down
   abbrev pub node_search : Option Find
   node_search = first_from level_search 0 (t.origin.height + code.levels)
 
+  -- the find at chain k, height e
   abbrev pub chain_find_at : ℕ → ℕ → Option Find
   chain_find_at k e =
       step_find (hash.step t.origin.hash_key) k e
       (our_chain hash code t k e) (their_chain hash code t k e)
 
+  -- of chain k, from the stamp's digit on, the find at the greatest height that has one
   abbrev pub height_search : ℕ → Option Find
   height_search k =
       last_from (chain_find_at k) (code.digit t.stamp k) (code.top - code.digit t.stamp k)
 
+  -- the find of the first chain that has one
   abbrev pub chain_search : Option Find
   chain_search = first_from height_search 0 code.count
 
+  -- the find of chain k's string at the stamp's digit, where that was not revealed
   abbrev pub hidden_find_at : ℕ → Option Find
   hidden_find_at k =
       hidden_find k (code.digit t.stamp k) (revealed_height code t.entered k)
       (our_chain hash code t k (code.digit t.stamp k))
 
+  -- the find of the first chain that has such a string
   abbrev pub hidden_search : Option Find
   hidden_search = first_from hidden_find_at 0 code.count
 

@@ -37,11 +37,11 @@ revealed_height code (Some stamp) k = code.digit stamp k
 revealed_height code None k = code.top
 
 module _ (hash : Hash) (code : Code) (t : Traced) where
-  -- the string of chain k at height e, on the signer's side and on the record's, which begins at
-  -- the stamp's digit
+  -- the string of chain k at height e, on the signer's side
   abbrev pub our_chain : ℕ → ℕ → List ℕ
   our_chain k e = chain_string hash t.origin t.leaf k e
 
+  -- the same on the record's side, where a chain begins at the stamp's digit
   abbrev pub their_chain : ℕ → ℕ → List ℕ
   their_chain k e =
       raise (hash.step t.origin.hash_key) (e - code.digit t.stamp k) (chain_in t.row k)
@@ -50,20 +50,22 @@ module _ (hash : Hash) (code : Code) (t : Traced) where
   abbrev pub our_node : ℕ → ℕ → List ℕ
   our_node a b = node_at hash code t.origin a b
 
-  -- the record's one-time string at place k of its leaf, and at position p of the bottom level; its
-  -- leaf's node; its sibling at level a
+  -- the record's one-time string at place k of its leaf
   abbrev pub their_one_time : ℕ → List ℕ
   their_one_time k =
       one_time (hash.step t.origin.hash_key) code.count code.top (code.digit t.stamp)
       (chain_in t.row) k
 
+  -- the record's one-time string at position p of the bottom level
   abbrev pub their_bottom : ℕ → List ℕ
   their_bottom p = their_one_time (p % 2 ^ code.levels)
 
+  -- the node of the record's leaf: the root of its L-tree
   abbrev pub their_leaf : List ℕ
   their_leaf =
       node (parent_at hash (parameters t.origin)) their_bottom t.origin.height code.levels t.leaf
 
+  -- the record's sibling at level a, on the leaf's authentication path
   abbrev pub their_sibling : ℕ → List ℕ
   their_sibling a = sibling_in code.count t.origin.height t.row a
 
@@ -77,10 +79,11 @@ module _ (hash : Hash) (code : Code) (t : Traced) where
       else node (parent_at hash (parameters t.origin)) their_bottom a
       (t.origin.height + code.levels - a) b
 
-  -- the two inputs of pair at level a, position b, of a side: its children under the masks of level
-  -- a
+  -- the left input of pair at level a, position b, of a side: the left child under the left mask of
+  -- level a
   abbrev pub left_input : (ℕ → ℕ → List ℕ) → ℕ → ℕ → List ℕ
   left_input side a b = xor (side (a + 1) (2 * b)) (string_at t.origin.masks (2 * a))
 
+  -- the right input, of the right child under the right mask
   abbrev pub right_input : (ℕ → ℕ → List ℕ) → ℕ → ℕ → List ℕ
   right_input side a b = xor (side (a + 1) (2 * b + 1)) (string_at t.origin.masks (2 * a + 1))

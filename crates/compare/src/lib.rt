@@ -1,4 +1,5 @@
-//! Comparing a release record with what a signer's seed and ledger give.
+//! Comparing a release record with what a signer's seed and ledger give: where both lead to one
+//! root, yet differ, the hash gave way, and what is found says where. No call refuses.
 #![tactic(auto)]
 
 mod chains;

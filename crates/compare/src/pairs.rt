@@ -1,13 +1,13 @@
-//! Comparing nodes.
+//! Comparing nodes: parents of masked children, and the L-tree inside a leaf.
 
 ghost use Rattle.std.specs.Prelude.{◌≡◌, ℕ, ◌+◌, ◌*◌, ◌^◌, ◌<◌, ◌≤◌, length};
-ghost use Rattle.compare.specs.Search.{first_from, child_find, depth_search};
 ghost use Rattle.strings.specs.Strings.{string_at};
-ghost use Rattle.compare.specs.Views.{traced_of};
-ghost use Rattle.growth.specs.Grown.{parameters};
 ghost use Rattle.tree.specs.Meaning.{hash_of};
 ghost use Rattle.tree.specs.Nodes.{parent_at, node};
 ghost use Rattle.tree.specs.Views.{parameters_of};
+ghost use Rattle.growth.specs.Grown.{parameters};
+ghost use Rattle.compare.specs.Search.{first_from, child_find, depth_search};
+ghost use Rattle.compare.specs.Views.{traced_of};
 
 use crate::reports::four_strings;
 use crate::{Compared, Find, Sides, Subject};
@@ -18,7 +18,8 @@ use tree::Parameters;
 use tree::nodes::Children;
 use tree::rows::WORK;
 
-/// The parent at a level of two children on both sides, and whether it hides that they differ.
+/// The parent at a level of two children, on both sides; and the find there, where the masked
+/// children differ and have one parent (`child_find` in specs/). The parent stands at `position`.
 pub(crate) fn join_both<H: TreeHash>(
     parameters: &Parameters<'_>,
     level: usize,
@@ -51,19 +52,20 @@ pub(crate) fn join_both<H: TreeHash>(
     Compared { sides, find }
 }
 
-// The two strings at place `p` of a row of pairs.
-fn children_at(row: &[u8], p: usize) -> Children
-    requires { 32 * p + 32 ≤ length row.now }
-    ensures left { result.left ≡ string_at row.now (2 * p) }
-    ensures right { result.right ≡ string_at row.now (2 * p + 1) }
+// The two strings at a place of a row of pairs.
+fn children_at(row: &[u8], place: usize) -> Children
+    requires { 32 * place + 32 ≤ length row.now }
+    ensures left { result.left ≡ string_at row.now (2 * place) }
+    ensures right { result.right ≡ string_at row.now (2 * place + 1) }
 {
-    let left = string_at(row, 2 * p);
-    let right = string_at(row, 2 * p + 1);
+    let left = string_at(row, 2 * place);
+    let right = string_at(row, 2 * place + 1);
     Children { left, right }
 }
 
-// Writes the `n` parents at `level` of the first 2n strings of both rows over their first n strings, and finds the first of
-// them that hides that its children differ; the first parent stands at position `first`.
+// Writes the `n` parents at `level` of the first 2n strings of both rows over their first n
+// strings, and finds the first of them that is equal on both sides while its masked children
+// differ; the first parent stands at position `first`.
 fn join_level<H: TreeHash>(
     parameters: &Parameters<'_>,
     level: usize,
@@ -89,26 +91,27 @@ fn join_level<H: TreeHash>(
         (string_at theirs.old (2 * p + 1))) 0 n }
 {
     let mut found = None;
-    for p in 0..n {
-        let our_children = children_at(ours, p);
-        let their_children = children_at(theirs, p);
+    for place in 0..n {
+        let our_children = children_at(ours, place);
+        let their_children = children_at(theirs, place);
         let above = join_both::<H>(
             parameters,
             level,
-            first + p as u16,
+            first + place as u16,
             &our_children,
             &their_children,
         );
-        put_string(ours, p, &above.sides.ours);
-        put_string(theirs, p, &above.sides.theirs);
+        put_string(ours, place, &above.sides.ours);
+        put_string(theirs, place, &above.sides.theirs);
         found = found.or(above.find);
     }
     found
 }
 
 impl<H: TreeHash, C: Code> Subject<'_, H, C> {
-    /// The node of the leaf on both sides, over two rows with its one-time strings; and the first node below it, or itself,
-    /// that hides that its children differ. The rows are used up.
+    /// The node of the leaf on both sides, the root of the L-tree over each of two rows with its
+    /// one-time strings; and of the nodes below it, and itself, the one nearest the root that is
+    /// equal on both sides while its masked children differ. The rows are used up.
     pub(crate) fn fold_both(&self, ours: &mut [u8; WORK], theirs: &mut [u8; WORK]) -> Compared
         ensures ours { result.sides.ours ≡ node
             (parent_at (hash_of H.TreeHash) (parameters (traced_of self.now).origin))

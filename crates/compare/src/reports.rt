@@ -5,7 +5,7 @@ ghost use Rattle.std.specs.Prelude.{◌≡◌, ◌++◌};
 use crate::REPORT;
 use strings::put;
 
-/// Four strings, one after another.
+/// Four strings of 16 bytes, one after another.
 pub(crate) fn four_strings(a: &[u8; 16], b: &[u8; 16], c: &[u8; 16], d: &[u8; 16]) -> [u8; REPORT]
     ensures { result ≡ a.now ++ (b.now ++ (c.now ++ d.now)) }
 {

@@ -5,7 +5,7 @@ use Rattle.strings.specs.Strings.{string_at, put_string, zero_string}
 use Rattle.strings.proofs.Laws.{length-put_string, at-put-same, at-put-other}
 use Rattle.tree.specs.Meaning.{Hash, Code}
 use Rattle.tree.specs.Nodes.{parent_at}
-use Rattle.growth.specs.Grown.{parameters, node_at, held_at, Holds, carry, with_leaf}
+use Rattle.growth.specs.Grown.{parameters, node_at, held_at, held_levels, nodes_size, Holds, carry, with_leaf}
 use Rattle.growth.specs.declared.origin.Origin.{Origin}
 use Rattle.growth.proofs.Strings.{Strings, node-str}
 use Rattle.growth.proofs.Trees.{Fills, node-up, held-unless, held-odd, held-here, held_below, held-above, not_root, fills_up, carry-odd, carry-even}
@@ -19,19 +19,19 @@ module _ (hash : Hash) (code : Code) (o : Origin) (g : ℕ) where
 
   -- a row that holds what is to be held after one leaf more
   abbrev More : List ℕ → Type 0
-  More row = (length row ≡ 144) × Holds hash code o (g + 1) row
+  More row = (length row ≡ nodes_size) × Holds hash code o (g + 1) row
 
   -- string s, which is node m, comes in at this level: the levels below it are empty, and the others are as they were
   pub record Comes (level m : ℕ) (s row : List ℕ) : Type 0 where
     pub within : level ≤ o.height
     pub fills : Fills g m (o.height - level)
     pub is : s ≡ at level m
-    pub long : length row ≡ 144
-    pub empty : (a : ℕ) → a < 9 → level < a → string_at row a ≡ zero_string
+    pub long : length row ≡ nodes_size
+    pub empty : (a : ℕ) → a < held_levels → level < a → string_at row a ≡ zero_string
     pub before : (a : ℕ) → a ≤ level → string_at row a ≡ held_at hash code o g a
 
   -- the new leaf's node comes in at the level of the leaves
-  pub comes-first : o.height ≤ 8 → (s nodes : List ℕ) → s ≡ at o.height g → length nodes ≡ 144 → Holds hash code o g nodes → Comes o.height g s nodes
+  pub comes-first : o.height ≤ 8 → (s nodes : List ℕ) → s ≡ at o.height g → length nodes ≡ nodes_size → Holds hash code o g nodes → Comes o.height g s nodes
   comes-first tall s nodes is long held =
       let none : o.height - o.height ≡ 0 = omega arith in
       record {
@@ -109,5 +109,5 @@ module _ (hash : Hash) (code : Code) (o : Origin) (all : Strings hash o) (tall :
       (cases_eq (m % 2) 1)
 
   -- one leaf more, and the row is as long as it was
-  pub holds_more : (nodes : List ℕ) → length nodes ≡ 144 → Holds hash code o g nodes → (length (with_leaf hash code o g nodes) ≡ 144) × Holds hash code o (g + 1) (with_leaf hash code o g nodes)
+  pub holds_more : (nodes : List ℕ) → length nodes ≡ nodes_size → Holds hash code o g nodes → (length (with_leaf hash code o g nodes) ≡ nodes_size) × Holds hash code o (g + 1) (with_leaf hash code o g nodes)
   holds_more nodes long held = carried o.height o.height g (node_at hash code o o.height g) nodes refl (comes-first hash code o g tall _ nodes refl long held)

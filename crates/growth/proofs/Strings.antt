@@ -1,16 +1,14 @@
 -- What a tree and a release are made of are strings.
-use Rattle.std.proofs.Common.{◌≡◌, ℕ, zero, suc, ◌+◌, ◌-◌, ◌*◌, ◌/◌, ◌^◌, ◌<◌, ◌≤◌, ltb, List, [], ◌∷◌, ◌++◌, length, take, drop, sym, refl, ap, ◌∙◌, ⊎_elim, zero-add, add-one, arith}
-use Rattle.std.specs.List.{range_with_len, flat_map}
-use Rattle.std.proofs.lemmas.List.FromFn.{map-range_with_len_more}
-use Rattle.std.proofs.lemmas.List.{length-append, map-id, flat_map_more, take_all, drop_at, take-append-drop, length-take-le}
-use Rattle.std.proofs.lemmas.Bool.{cases_lt, cond_both, ltb-true}
+use Rattle.std.proofs.Common.{◌≡◌, ℕ, zero, suc, ◌+◌, ◌-◌, ◌*◌, ◌/◌, ◌^◌, ◌<◌, ◌≤◌, ltb, List, length, take, drop, sym, ap, ◌∙◌, arith}
+use Rattle.std.proofs.lemmas.List.{take-append-drop, length-take-le}
+use Rattle.std.proofs.lemmas.Bool.{cond_both, ltb-true}
 use Rattle.strings.specs.Strings.{Bytes, Str, string_at, zero_string, numeral, xor}
 use Rattle.strings.proofs.Laws.{xor-str, numeral-str, string_at-str, piece-front}
 use Rattle.tree.specs.Laws.{HashLaws}
 use Rattle.tree.specs.Meaning.{Hash, Code}
 use Rattle.tree.specs.Nodes.{raise, node, one_time, parent_at}
 use Rattle.growth.specs.Grown.{secret, chain_string, bottom, parameters}
-use Rattle.tree.specs.Rows.{sibling_level}
+use Rattle.tree.specs.Rows.{masks_size, sibling_level}
 use Rattle.growth.specs.Shown.{sibling_of, shown_string}
 use Rattle.growth.specs.declared.origin.Origin.{Origin}
 
@@ -28,7 +26,7 @@ pub record Strings (hash : Hash) (o : Origin) : Type 0 where
   pub laws : HashLaws hash
   pub seeded : Str o.seed
   pub keyed : Str o.hash_key
-  pub masked : (length o.masks ≡ 512) × Bytes o.masks
+  pub masked : (length o.masks ≡ masks_size) × Bytes o.masks
 
 -- chains, one-time strings and parents of strings
 module _ (hash : Hash) (o : Origin) (all : Strings hash o) where

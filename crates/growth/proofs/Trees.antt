@@ -9,7 +9,7 @@ use Rattle.strings.specs.Strings.{zero_string, string_at, put_string}
 use Rattle.tree.specs.Meaning.{Hash, Code}
 use Rattle.tree.specs.Nodes.{node, parent_at}
 use Rattle.tree.proofs.Laws.{node-moved, node-parent}
-use Rattle.growth.specs.Grown.{leaf_string, bottom, parameters, node_at, filled, is_held, held_at, Holds, carry}
+use Rattle.growth.specs.Grown.{leaf_string, bottom, parameters, node_at, filled, nodes_size, is_held, held_at, Holds, carry}
 use Rattle.growth.specs.declared.origin.Origin.{Origin}
 
 module _ (hash : Hash) (code : Code) (o : Origin) where
@@ -133,10 +133,10 @@ carry-even parent zero b s nodes even = refl
 carry-even parent (suc a) b s nodes even = cond-false (eqb (b % 2) 1) _ _ (ne_eqb (b % 2) 1 even)
 
 -- with no leaf in, nothing is held
-pub holds-none : (hash : Hash) (code : Code) (o : Origin) → Holds hash code o 0 (replicate 144 0)
+pub holds-none : (hash : Hash) (code : Code) (o : Origin) → Holds hash code o 0 (replicate nodes_size 0)
 holds-none hash code o a h =
     let none : filled 0 (o.height - a) % 2 ≡ 0 = ap (λ n. n % 2) (zero-div (2 ^ (o.height - a))) in
-    string_at-zeros 144 a (omega arith) ∙ sym (held-unless hash code o 0 a (λ near odd. omega arith))
+    string_at-zeros nodes_size a (omega arith) ∙ sym (held-unless hash code o 0 a (λ near odd. omega arith))
 
 -- with all leaves in, the root is held
 pub holds-root : (hash : Hash) (code : Code) (o : Origin) (nodes : List ℕ) → Holds hash code o (2 ^ o.height) nodes → string_at nodes 0 ≡ node_at hash code o 0 0

@@ -1,4 +1,5 @@
-//! Growing a tree leaf by leaf.
+//! A Merkle tree over a seed: its secrets, its nodes, growing it leaf by leaf (treehash), and what
+//! a release of a leaf shows. No call refuses: a `requires` clause says what it needs.
 #![tactic(auto)]
 
 mod leaves;

@@ -1,8 +1,8 @@
-//! The nodes that are held while a tree is grown.
+//! The nodes that are held while a tree is grown (the treehash stack).
 
 ghost use Rattle.std.specs.Prelude.{◌≡◌, ◌+◌, ◌^◌, ◌<◌};
-ghost use Rattle.growth.specs.Grown.{Holds, with_leaf};
 ghost use Rattle.tree.specs.Meaning.{hash_of, code_of};
+ghost use Rattle.growth.specs.Grown.{Holds, with_leaf};
 
 use crate::Tree;
 use codes::Code;
@@ -10,12 +10,15 @@ use hashes::TreeHash;
 use strings::{ZERO, put_string, string_at};
 use tree::rows::WORK;
 
-/// The bytes of the nodes that are held: a string for each level from the root to the leaves, of which there are 9 at most.
+/// The bytes of the nodes that are held: a string of 16 bytes for each level from the root to the
+/// leaves, of which there are 9 at most.
 pub const NODES: usize = 144;
 
 impl<H: TreeHash, C: Code> Tree<'_, H, C> {
-    /// Adds leaf number `grown` to a tree of which the leaves before it are in. String a of `nodes` is what is held at
-    /// level a; nodes over full subtrees of equal size join. The work buffer is used up.
+    /// Adds leaf number `grown` to a tree of which the leaves before it are in (treehash). String
+    /// number a of `nodes` is what is held at level a, or zero where nothing is: the new leaf's
+    /// node joins the one that is held at its level, as its right sibling, and their parent goes on
+    /// above, until a level holds none (`with_leaf` in specs/). The work buffer is used up.
     pub fn add_leaf(&self, grown: u16, nodes: &mut [u8; NODES], work: &mut [u8; WORK])
         requires { grown < 2 ^ self.now.origin.now.height }
         ensures after { nodes.new ≡ with_leaf (hash_of H.TreeHash) (code_of C.Code)

@@ -8,6 +8,7 @@ pub record Cause : Type 1 where
   pub number : ℕ
   pub condition : Type 0
 
+-- a refusal of this number, for this condition
 abbrev pub cause : ℕ → Type 0 → Cause
 cause number condition = record { number = number; condition = condition }
 

@@ -2,14 +2,14 @@
 use Rattle.std.specs.Prelude.{ℕ, ◌^◌, ◌<◌, ◌≤◌, ◌≢◌, ◌⊎◌, List, [], ◌∷◌, ◌++◌, length}
 use Rattle.records.specs.Causes.{Cause, cause}
 use Rattle.records.specs.Kinds.{kind_number}
-use Rattle.records.specs.Records.{field, key_length, release_length}
+use Rattle.records.specs.Records.{field, shortest_record, key_length, release_length}
 use Rattle.records.specs.Records.{hash_number_of, code_number_of, height_of, spare_of, leaf_of}
 use Rattle.records.specs.declared.kind.RecordKind.{RecordKind}
 use Rattle.records.specs.declared.kind.RecordKind.TheVariants as kind
 
 -- 6: fewer than 10 bytes, or a length field that differs from the number of bytes
 abbrev pub WrongLength : List ℕ → Type 0
-WrongLength bytes = (length bytes < 10) ⊎ (field bytes 0 4 ≢ length bytes)
+WrongLength bytes = (length bytes < shortest_record) ⊎ (field bytes 0 4 ≢ length bytes)
 
 -- 7: another kind of record than this one
 abbrev pub WrongKind : RecordKind → List ℕ → Type 0
@@ -23,10 +23,11 @@ WrongNumbers hash code bytes = (hash_number_of bytes ≢ hash) ⊎ (code_number_
 abbrev pub WrongHeight : List ℕ → Type 0
 WrongHeight bytes = (height_of bytes < 1) ⊎ ((8 < height_of bytes) ⊎ (spare_of bytes ≢ 0))
 
--- 10: another byte count than the layout of the record has
+-- 10, of a key record: another byte count than one of its height has
 abbrev pub WrongKeyLength : ℕ → List ℕ → Type 0
 WrongKeyLength levels bytes = length bytes ≢ key_length (height_of bytes) levels
 
+-- 10, of a release record: another byte count than one has under a key of height h
 abbrev pub WrongReleaseLength : ℕ → ℕ → List ℕ → Type 0
 WrongReleaseLength count h bytes = length bytes ≢ release_length count h
 
@@ -38,7 +39,7 @@ NoSuchLeaf h bytes = 2 ^ h ≤ leaf_of bytes
 abbrev pub header_causes : RecordKind → List ℕ → List Cause
 header_causes kind bytes = cause 6 (WrongLength bytes) ∷ (cause 7 (WrongKind kind bytes) ∷ [])
 
--- open
+-- reading a key record, as open does
 abbrev pub open_causes : ℕ → ℕ → ℕ → List ℕ → List Cause
 open_causes hash code levels bytes =
     header_causes kind.Key bytes

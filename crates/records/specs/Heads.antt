@@ -8,7 +8,7 @@ pub record Head : Type 0 where
   pub kind : ℕ
   pub body : List ℕ
 
--- none where there are fewer than 6 bytes
+-- the head of a record; none where there are fewer than 6 bytes
 abbrev pub head_of : List ℕ → Option Head
 head_of bytes =
     if nat_lt (length bytes) 6 then None

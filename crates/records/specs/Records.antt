@@ -26,10 +26,20 @@ abbrev pub field : List ℕ → ℕ → ℕ → ℕ
 field bytes i zero = 0
 field bytes i (suc n) = slice_index bytes i + 256 * field bytes (suc i) n
 
--- the whole length of a key record of height h, and of a release record with `count` chains
-abbrev pub key_length : ℕ → ℕ → ℕ
-key_length h levels = 42 + 32 * (h + levels)
+-- as few bytes as any record may have: those of a key record up to its hash key
+abbrev pub shortest_record : ℕ
+shortest_record = 10
 
+-- how many bytes of a key record are not its masks
+abbrev pub beside_masks : ℕ
+beside_masks = 42
+
+-- the whole length of a key record of height h, under a code with these levels: two masks for each
+-- level of the tree and of the tree inside a leaf
+abbrev pub key_length : ℕ → ℕ → ℕ
+key_length h levels = beside_masks + 32 * (h + levels)
+
+-- the whole length of a release record with `count` chains, under a key of height h
 abbrev pub release_length : ℕ → ℕ → ℕ
 release_length count h = 8 + 16 * (count + h)
 
@@ -37,31 +47,38 @@ release_length count h = 8 + 16 * (count + h)
 abbrev pub longest_release : ℕ
 longest_release = 4232
 
--- the parts of a key record
+-- the parts of a key record: its hash number
 abbrev pub hash_number_of : List ℕ → ℕ
 hash_number_of bytes = slice_index bytes 6
 
+-- its code number
 abbrev pub code_number_of : List ℕ → ℕ
 code_number_of bytes = slice_index bytes 7
 
+-- its height
 abbrev pub height_of : List ℕ → ℕ
 height_of bytes = slice_index bytes 8
 
+-- its spare byte
 abbrev pub spare_of : List ℕ → ℕ
 spare_of bytes = slice_index bytes 9
 
+-- its hash key
 abbrev pub hash_key_of : List ℕ → List ℕ
 hash_key_of bytes = take 16 (drop 10 bytes)
 
+-- its masks (bitmasks), which stand between the hash key and the root
 abbrev pub masks_of : List ℕ → List ℕ
-masks_of bytes = take (length bytes - 42) (drop 26 bytes)
+masks_of bytes = take (length bytes - beside_masks) (drop 26 bytes)
 
+-- its root, the last 16 bytes
 abbrev pub root_of : List ℕ → List ℕ
 root_of bytes = take 16 (drop (length bytes - 16) bytes)
 
--- the parts of a release record
+-- the parts of a release record: its leaf number
 abbrev pub leaf_of : List ℕ → ℕ
 leaf_of bytes = field bytes 6 2
 
+-- its row of strings
 abbrev pub row_of : List ℕ → List ℕ
 row_of bytes = drop 8 bytes

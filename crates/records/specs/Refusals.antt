@@ -5,6 +5,7 @@ use Rattle.records.specs.declared.refusal.Refusal.TheVariants.{Plan, Grown, Spen
 use Rattle.records.specs.declared.refusal.Refusal.TheVariants.{Length, Kind, Parameters, Height}
 use Rattle.records.specs.declared.refusal.Refusal.TheVariants.{Layout, Leaf, Root}
 
+-- the number of a refusal
 abbrev pub refusal_number : Refusal → ℕ
 refusal_number Plan = 1
 refusal_number Grown = 2

@@ -4,8 +4,8 @@ use Rattle.std.specs.Prelude.{ℕ, ◌^◌, Bool, if◌then◌else◌, not, ◌|
 use Rattle.std.specs.Prelude.{Result, ◌==◌, nat_le, nat_lt}
 use Rattle.records.specs.Keys.{Key, Shown}
 use Rattle.records.specs.Kinds.{kind_number}
-use Rattle.records.specs.Records.{field, key_length, release_length, hash_number_of}
-use Rattle.records.specs.Records.{code_number_of, height_of, spare_of, leaf_of, row_of}
+use Rattle.records.specs.Records.{field, shortest_record, key_length, release_length, leaf_of}
+use Rattle.records.specs.Records.{hash_number_of, code_number_of, height_of, spare_of, row_of}
 use Rattle.records.specs.declared.kind.RecordKind.{RecordKind}
 use Rattle.records.specs.declared.kind.RecordKind.TheVariants as kind
 use Rattle.records.specs.declared.refusal.Refusal.{Refusal}
@@ -28,8 +28,9 @@ after (Err e) next = Err e
 
 -- fewer than 10 bytes, or a length field that differs from the number of bytes
 abbrev pub bad_length : List ℕ → Bool
-bad_length bytes = nat_lt (length bytes) 10 || not (field bytes 0 4 == length bytes)
+bad_length bytes = nat_lt (length bytes) shortest_record || not (field bytes 0 4 == length bytes)
 
+-- another kind than this one
 abbrev pub bad_kind : RecordKind → List ℕ → Bool
 bad_kind kind bytes = not (field bytes 4 2 == kind_number kind)
 
@@ -38,7 +39,7 @@ abbrev pub header_rule : RecordKind → List ℕ → Result (List ℕ) Refusal
 header_rule kind bytes =
     refuse (bad_length bytes) Length (refuse (bad_kind kind bytes) Kind (Ok (drop 6 bytes)))
 
--- a key record names another hash or code
+-- another hash or code number in a key record than these
 abbrev pub foreign : ℕ → ℕ → List ℕ → Bool
 foreign hash code bytes =
     not (hash_number_of bytes == hash) || not (code_number_of bytes == code)
@@ -48,7 +49,7 @@ abbrev pub bad_height : List ℕ → Bool
 bad_height bytes =
     nat_lt (height_of bytes) 1 || (nat_lt 8 (height_of bytes) || not (spare_of bytes == 0))
 
--- a key record, opened by a verifier with these hash and code numbers and levels
+-- a key record, read by a verifier with these hash and code numbers and levels: the key
 abbrev pub open_rule : ℕ → ℕ → ℕ → List ℕ → Result Key Refusal
 open_rule hash code levels bytes =
     after (header_rule kind.Key bytes)

@@ -1,4 +1,5 @@
-//! The records as bytes: framing, kinds, layout and lengths, refusals, and the reading and writing of both kinds.
+//! The records as bytes: framing, kinds, layout and lengths, refusals, and the reading and writing
+//! of both kinds, key records and release records. Nothing is copied out of a record that is read.
 #![tactic(auto)]
 
 mod header;

@@ -13,7 +13,7 @@ use std::fmt;
 /// Why a call refuses; each case has one number.
 #[derive(Clone, Copy, PartialEq, Eq, Debug)]
 pub enum Refusal {
-    /// A plan's height outside 1 to 8.
+    /// A height outside 1 to 8, of a tree that is planned.
     Plan = 1,
     /// All leaves of a key are in.
     Grown = 2,
@@ -40,8 +40,9 @@ pub enum Refusal {
 }
 
 impl Refusal {
-    /// The number by which programs name the refusal, from 1 to 12. Each reading of a record refuses with the first number in its list
-    /// whose condition holds, and answers where none does.
+    /// The number by which programs name the refusal, from 1 to 12 (`refusal_number` in specs/).
+    /// Each reading of a record refuses with the first number in its list whose condition holds,
+    /// and answers where none does: `header`, `open` and `release` say so of the three lists.
     pub fn number(self) -> u8
         ensures value { result ≡ refusal_number self }
         ensures header { (kind : RecordKind) (bytes : List ℕ) →
@@ -55,7 +56,7 @@ impl Refusal {
     }
 }
 
-// A refusal prints as its number.
+/// A refusal prints as its number, in decimal digits.
 impl fmt::Display for Refusal {
     ghost output = { λ refusal. Some (decimal (refusal_number refusal)) };
 

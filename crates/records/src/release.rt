@@ -1,11 +1,11 @@
-//! Release records.
+//! Release records: reading and writing.
 
 ghost use Rattle.std.specs.Prelude.{◌≡◌, ℕ, ◌+◌, ◌*◌, ◌<◌, ◌≤◌, ◌++◌, List, length, take, drop};
+ghost use Rattle.tree.specs.Rows.{row_from};
 ghost use Rattle.records.specs.Reads.{ReadsReleases};
 ghost use Rattle.records.specs.Records.{release_length, release_bytes};
 ghost use Rattle.records.specs.Rules.{seen, parts_rule, release_rule};
 ghost use Rattle.records.specs.Views.{shown_by};
-ghost use Rattle.tree.specs.Rows.{row_from};
 
 use crate::header::{body_of, write_header};
 use crate::{RecordKind, Refusal, layout, release_length};
@@ -13,16 +13,19 @@ use codes::Code;
 use strings::put;
 use tree::rows::WORK;
 
-/// A release as it lies in the caller's bytes.
+/// A release as it lies in the caller's bytes: what a release record holds.
 #[derive(Clone, Copy)]
 pub struct Release<'a> {
+    /// The number of the leaf that was spent on the stamp.
     pub leaf: u16,
-    /// A string for each chain, then the siblings from the leaf's level up to level 1.
+    /// A string of 16 bytes for each chain, then the siblings from the leaf's level up to level 1
+    /// (the authentication path).
     pub row: &'a [u8],
 }
 
-/// The leaf number and the strings in the body of a release record under a key of this height. Refuses with 10, `Layout`, another byte
-/// count than the layout's, and then with 11, `Leaf`, a leaf number past the last leaf.
+/// The leaf number and the strings in the body of a release record under a key of this height
+/// (`parts_rule` in specs/). Refuses with 10, `Layout`, a body of another byte count than that of
+/// `release_length`, and then with 11, `Leaf`, a leaf number of 2^height or more.
 pub fn parts_of<C: Code>(height: u8, body: &[u8]) -> Result<Release<'_>, Refusal>
     ensures { (bytes : List ℕ) → body.now ≡ drop 6 bytes →
         seen shown_by result ≡ parts_rule C.Code.COUNT height bytes }
@@ -41,8 +44,9 @@ pub fn parts_of<C: Code>(height: u8, body: &[u8]) -> Result<Release<'_>, Refusal
     Ok(Release { leaf, row })
 }
 
-/// Reads a release record under a key of this height, as the key's own signer does. Refuses with 6 and 7 as `body_of`, and then with
-/// 10 and 11 as `parts_of`.
+/// Reads a release record under a key of this height, as the key's own signer does (`release_rule`
+/// in specs/). Refuses, in this order: with 6, `Length`, and 7, `Kind`, as `body_of`; with 10,
+/// `Layout`, and 11, `Leaf`, as `parts_of`.
 pub fn read_release<C: Code>(height: u8, bytes: &[u8]) -> Result<Release<'_>, Refusal>
     ensures answer { seen shown_by result ≡ release_rule C.Code.COUNT height bytes.now }
     ensures reads { height ≤ 8 →
@@ -52,21 +56,23 @@ pub fn read_release<C: Code>(height: u8, bytes: &[u8]) -> Result<Release<'_>, Re
     parts_of::<C>(height, body)
 }
 
-/// The strings of a release, made one by one.
+/// The strings of a release, made one by one: whoever writes a release record says here what they
+/// are.
 pub trait ReleaseRow {
-    // how many strings there are
+    /// How many strings there are.
     ghost count: { Self → ℕ };
 
-    // the string at a place
+    /// The string at a place, counted from 0.
     ghost strings: { Self → ℕ → List ℕ };
 
-    /// String `k`. The work buffer is used up.
+    /// String number `k`, 16 bytes. The work buffer is used up.
     fn string(&self, k: usize, work: &mut [u8; WORK]) -> [u8; 16]
         requires { k < count self.now }
         ensures { result ≡ strings self.now k };
 }
 
-// Writes `count` strings from byte 8 of the output on; the bytes before and after them stay.
+// Writes `count` strings, all of the row, from byte 8 of the output on; the bytes before and after
+// them stay.
 fn write_row<R: ReleaseRow>(out: &mut [u8], row: &R, count: usize, work: &mut [u8; WORK])
     requires whole { count ≡ R.count row.now }
     requires room { 8 + 16 * count ≤ length out.old }
@@ -74,13 +80,15 @@ fn write_row<R: ReleaseRow>(out: &mut [u8], row: &R, count: usize, work: &mut [u
         ++ drop (8 + 16 * count) out.old }
     ensures long { length (row_from (R.strings row.now) count) ≡ 16 * count }
 {
-    for k in 0..count {
-        let string = row.string(k, work);
-        put(out, layout::ROW + 16 * k, &string);
+    for place in 0..count {
+        let string = row.string(place, work);
+        put(out, layout::ROW + 16 * place, &string);
     }
 }
 
-/// Writes a release record under a key of this height at the start of the output; the bytes past it stay. The work buffer is used up.
+/// Writes a release record of this leaf under a key of this height at the start of the output,
+/// which must have room for it (`release_bytes` in specs/); the bytes past it stay. The row is made
+/// string by string, in the output. The work buffer is used up.
 pub fn write_release<C: Code, R: ReleaseRow>(
     out: &mut [u8],
     height: u8,

@@ -5,6 +5,7 @@ use Rattle.std.proofs.lemmas.Grind.{pow_more}
 use Rattle.strings.specs.Strings.{string_at, zero_string}
 use Rattle.strings.proofs.Laws.{string_at-zeros}
 use Rattle.tree.specs.Nodes.{raise, node, above, climb, one_time}
+use Rattle.tree.specs.Rows.{most_places, work_size}
 
 pub raise-none : (step : List ℕ → List ℕ) (s : List ℕ) → raise step 0 s ≡ s
 unfolding raise
@@ -58,8 +59,8 @@ module _ (step : List ℕ → List ℕ) (top : ℕ) (digit : ℕ → ℕ) (shown
   one-time-past count k h = ap (λ b. cond b (raise step (top - digit k) (shown k)) zero_string) (le-ltb k count h)
 
   -- a row of zeros
-  pub one-time-none : (i : ℕ) → i < 256 → string_at (replicate 4096 0) i ≡ one_time step 0 top digit shown i
-  one-time-none i h = string_at-zeros 4096 i (omega arith) ∙ sym (one-time-past 0 i (omega arith))
+  pub one-time-none : (i : ℕ) → i < most_places → string_at (replicate work_size 0) i ≡ one_time step 0 top digit shown i
+  one-time-none i h = string_at-zeros work_size i (omega arith) ∙ sym (one-time-past 0 i (omega arith))
 
   -- a row with one chain more
   pub one-time-more : (n k : ℕ) (row after : List ℕ) → ((i : ℕ) → i < n → string_at row i ≡ one_time step k top digit shown i) → string_at after k ≡ raise step (top - digit k) (shown k) → ((i : ℕ) → (i ≡ k → ⊥) → string_at after i ≡ string_at row i) → (i : ℕ) → i < n → string_at after i ≡ one_time step (k + 1) top digit shown i

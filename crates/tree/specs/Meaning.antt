@@ -1,23 +1,27 @@
--- A hash and a code as values: what the generic code is proved over.
+-- A hash and a code as values: what the generic code is proved over. Keys and strings have 16
+-- bytes.
 use Rattle.std.specs.Prelude.{ℕ, List}
 use Rattle.hashes.specs.declared.ChainHash as chain_hash
 use Rattle.hashes.specs.declared.TreeHash as tree_hash
 use Rattle.codes.specs.declared.Code as code_trait
 
+-- a keyed hash: its number in key records, and what it does with strings
 pub record Hash : Type 0 where
   pub number : ℕ
-  -- key and string to string
+  -- a step up a hash chain: key and string to string
   pub step : List ℕ → List ℕ → List ℕ
-  -- key, left and right string to string
+  -- two strings joined: key, left and right string to string
   pub pair : List ℕ → List ℕ → List ℕ → List ℕ
 
+-- a code, as Lamport-Diffie's or Winternitz's: its number in key records, and the digits that it
+-- gives a stamp
 pub record Code : Type 0 where
   pub number : ℕ
-  -- how many digits a stamp has
+  -- how many digits a stamp has, and a leaf chains
   pub count : ℕ
-  -- the largest digit
+  -- the largest digit, and how many steps a chain has
   pub top : ℕ
-  -- the levels of the tree inside a leaf
+  -- the levels of the tree inside a leaf (its L-tree)
   pub levels : ℕ
   -- stamp and place to digit
   pub digit : List ℕ → ℕ → ℕ

@@ -1,4 +1,4 @@
--- Chains, nodes and the way from a leaf to the root.
+-- Hash chains, the nodes of a Merkle tree, and the way from a leaf to the root.
 use Rattle.std.specs.Prelude.{ℕ, zero, suc, ◌+◌, ◌-◌, ◌*◌, ◌/◌, ◌%◌, if◌then◌else◌, List}
 use Rattle.std.specs.Prelude.{◌==◌, nat_lt}
 use Rattle.strings.specs.Strings.{xor, string_at, zero_string}
@@ -6,7 +6,7 @@ use Rattle.tree.specs.Meaning.{Hash}
 
 -- the parameters of a tree, which hold no secret
 pub record Parameters : Type 0 where
-  -- the key under which chains step and nodes join
+  -- the key, 16 bytes, under which chains step and nodes join
   pub hash_key : List ℕ
   -- a row of strings (bitmasks): strings 2a and 2a + 1 are the left and right mask of level a
   pub masks : List ℕ
@@ -24,7 +24,7 @@ abbrev pub join : (List ℕ → List ℕ → List ℕ) → List ℕ → ℕ → 
 join pair masks a left right =
     pair (xor left (string_at masks (2 * a))) (xor right (string_at masks (2 * a + 1)))
 
--- the same under the parameters of a tree
+-- the parent at level a of two children, under the parameters of a tree
 abbrev pub parent_at : Hash → Parameters → ℕ → List ℕ → List ℕ → List ℕ
 parent_at hash p = join (hash.pair p.hash_key) p.masks
 

@@ -24,7 +24,11 @@ sibling_in count h row a = string_at row (sibling_place count h a)
 abbrev pub sibling_level : ℕ → ℕ → ℕ → ℕ
 sibling_level count h k = h - (k - count)
 
--- the bytes of a work buffer: a string for each place of a leaf, of which there are 2 ^ 8 at most
+-- as many places as a leaf has at most: 2 ^ 8
+abbrev pub most_places : ℕ
+most_places = 256
+
+-- the bytes of a work buffer: a string for each place of a leaf
 abbrev pub work_size : ℕ
 work_size = 4096
 

@@ -1,4 +1,5 @@
-//! Chains, the tree inside a leaf, and the path from a leaf to the root.
+//! Hash chains, the tree inside a leaf (an L-tree), and the authentication path from a leaf to the
+//! root. No call refuses: a `requires` clause says what it needs.
 #![tactic(auto)]
 
 pub mod chains;

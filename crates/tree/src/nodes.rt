@@ -1,4 +1,5 @@
-//! Nodes: two masked children make a parent, and a row of strings folds to its root.
+//! Nodes of a Merkle tree with bitmasks: two masked children make a parent, and a row of strings
+//! folds to its root.
 
 ghost use Rattle.std.specs.Prelude.{◌≡◌, ℕ, ◌+◌, ◌*◌, ◌%◌, ◌^◌, ◌<◌, ◌≤◌, if◌then◌else◌, length, nat_eq};
 ghost use Rattle.strings.specs.Strings.{xor, string_at};
@@ -10,30 +11,34 @@ use crate::Parameters;
 use hashes::TreeHash;
 use strings::{put_string, string_at, xor};
 
-/// Two children of one parent.
+/// Two children of one parent, 16 bytes each.
 #[derive(Clone, Copy)]
 pub struct Children {
+    /// The child at the even position.
     pub left: [u8; 16],
+    /// The child at the odd position, beside it.
     pub right: [u8; 16],
 }
 
 impl Children {
-    /// A node at a position and its sibling, as children of their parent.
-    pub fn in_order(position: u16, at: &[u8; 16], sibling: &[u8; 16]) -> Children
-        ensures left { result.left ≡ (if nat_eq (position % 2) 0 then at.now else sibling.now) }
-        ensures right { result.right ≡ (if nat_eq (position % 2) 0 then sibling.now else at.now) }
+    /// A node at `position` and its sibling, as children of their parent: the node is the left one
+    /// where its position is even, else the right one.
+    pub fn in_order(position: u16, node: &[u8; 16], sibling: &[u8; 16]) -> Children
+        ensures left { result.left ≡ (if nat_eq (position % 2) 0 then node.now else sibling.now) }
+        ensures right { result.right ≡ (if nat_eq (position % 2) 0 then sibling.now else node.now) }
     {
         let (left, right) = if position % 2 == 0 {
-            (*at, *sibling)
+            (*node, *sibling)
         } else {
-            (*sibling, *at)
+            (*sibling, *node)
         };
         Children { left, right }
     }
 }
 
 impl Parameters<'_> {
-    /// Two children under the masks of a level.
+    /// Two children under the bitmasks of `level`: each is joined by exclusive or with the mask of
+    /// its side. The left one is string number 2 * level of the masks, the right one is after it.
     pub fn masked(&self, level: usize, children: &Children) -> Children
         requires { 32 * level + 32 ≤ length self.now.masks.now }
         ensures left { result.left ≡ xor children.now.left
@@ -46,7 +51,8 @@ impl Parameters<'_> {
         Children { left, right }
     }
 
-    /// The parent at `level` of two children.
+    /// The parent at `level` of two children, 16 bytes each: both are masked as `masked` does, and
+    /// then joined by the hash under the hash key (`parent_at` in specs/).
     pub fn parent<H: TreeHash>(&self, level: usize, left: &[u8; 16], right: &[u8; 16]) -> [u8; 16]
         requires { 32 * level + 32 ≤ length self.now.masks.now }
         ensures { result ≡ parent_at (hash_of H.TreeHash) (parameters_of self.now) level left.now
@@ -60,8 +66,8 @@ impl Parameters<'_> {
         H::pair(self.hash_key, &masked.left, &masked.right)
     }
 
-    /// Writes the `n` parents at `level` of the first 2n strings of `row` over its first n strings. Nothing is promised
-    /// of the strings after them.
+    /// Writes the `n` parents at `level` of the first 2n strings of `row` over its first n strings:
+    /// of each two neighbours the parent. Nothing is promised of the strings after them.
     pub fn fold_level<H: TreeHash>(&self, level: usize, row: &mut [u8], n: usize)
         requires masked { 32 * level + 32 ≤ length self.now.masks.now }
         requires within { 32 * n ≤ length row.old }
@@ -69,14 +75,16 @@ impl Parameters<'_> {
             ≡ parent_at (hash_of H.TreeHash) (parameters_of self.now) level
             (string_at row.old (2 * k)) (string_at row.old (2 * k + 1)) }
     {
-        for p in 0..n {
-            let left = string_at(row, 2 * p);
-            let right = string_at(row, 2 * p + 1);
-            put_string(row, p, &self.parent::<H>(level, &left, &right));
+        for place in 0..n {
+            let left = string_at(row, 2 * place);
+            let right = string_at(row, 2 * place + 1);
+            put_string(row, place, &self.parent::<H>(level, &left, &right));
         }
     }
 
-    /// The node at `level` over the first 2^levels strings of `row`, which lie `levels` below it. The row is used up.
+    /// The node at `level` over the first 2^levels strings of `row`, which lie `levels` below it
+    /// (`node` in specs/): the row is folded `levels` times, each time under the masks of the level
+    /// above it. Over a leaf's one-time strings this is the L-tree. The row is used up.
     pub fn fold<H: TreeHash>(&self, level: usize, levels: usize, row: &mut [u8]) -> [u8; 16]
         requires masked { 32 * (level + levels) ≤ length self.now.masks.now }
         requires within { 16 * 2 ^ levels ≤ length row.old }

@@ -1,4 +1,4 @@
-//! The path from a leaf to the root.
+//! The authentication path from a leaf to the root.
 
 ghost use Rattle.std.specs.Prelude.{◌≡◌, ◌+◌, ◌*◌, ◌≤◌, length};
 ghost use Rattle.tree.specs.Meaning.{hash_of};
@@ -13,23 +13,26 @@ use codes::Code;
 use hashes::TreeHash;
 
 impl Parameters<'_> {
-    /// The parent at `level` of the node `at`, which stands at `position` one level below, and its sibling.
+    /// The parent at `level` of a node, which stands at `position` one level below, and of its
+    /// sibling, 16 bytes each (`above` in specs/).
     pub fn parent_above<H: TreeHash>(
         &self,
         level: usize,
         position: u16,
-        at: &[u8; 16],
+        node: &[u8; 16],
         sibling: &[u8; 16],
     ) -> [u8; 16]
         requires { 32 * level + 32 ≤ length self.now.masks.now }
         ensures { result ≡ above (parent_at (hash_of H.TreeHash) (parameters_of self.now)) level
-            position at.now sibling.now }
+            position node.now sibling.now }
     {
-        let children = Children::in_order(position, at, sibling);
+        let children = Children::in_order(position, node, sibling);
         self.parent::<H>(level, &children.left, &children.right)
     }
 
-    /// The root over leaf number `leaf`, whose node is `start`: the row of its release has the siblings on the way.
+    /// The root over leaf number `leaf`, whose node is `start` (`climb` in specs/). `row` is the
+    /// row of a release of that leaf: after its chains it has the siblings of the authentication
+    /// path.
     pub fn climb_path<H: TreeHash, C: Code>(
         &self,
         leaf: u16,
@@ -41,13 +44,13 @@ impl Parameters<'_> {
         ensures { result ≡ climb (parent_at (hash_of H.TreeHash) (parameters_of self.now))
             (sibling_in C.Code.COUNT self.now.height row.now) self.now.height leaf start.now }
     {
-        let mut at = *start;
+        let mut node = *start;
         let mut position = leaf;
         for level in (0..self.height as usize).rev() {
             let sibling = sibling_in::<C>(self.height, row, level + 1);
-            at = self.parent_above::<H>(level, position, &at, &sibling);
+            node = self.parent_above::<H>(level, position, &node, &sibling);
             position /= 2;
         }
-        at
+        node
     }
 }

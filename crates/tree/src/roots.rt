@@ -12,8 +12,10 @@ use codes::Code;
 use hashes::TreeHash;
 
 impl Parameters<'_> {
-    /// The root of leaf number `leaf`. The row has a string for each chain, at the height of the stamp's digit, and then the
-    /// siblings from the leaf's level up to level 1.
+    /// The root that leaf number `leaf` leads to (`rebuilt` in specs/). The row has a string of 16
+    /// bytes for each chain, at the height of the stamp's digit, and then the siblings of the
+    /// authentication path, from the leaf's level up to level 1. The chains are raised to their
+    /// tops, the tops folded to the leaf's node, and from there the path climbed.
     pub fn rebuild_root<H: TreeHash, C: Code>(
         &self,
         leaf: u16,

@@ -1,12 +1,11 @@
 -- What the rules of the verifier come to: an answer that is no refusal, and what then holds of the bytes.
-use Rattle.std.proofs.Common.{◌≡◌, ℕ, ◌+◌, ◌^◌, ◌<◌, ◌≤◌, Bool, true, false, not, List, length, drop, Ok, Err, Result, refl, ap, ◌∙◌, arith}
+use Rattle.std.proofs.Common.{◌≡◌, ℕ, ◌^◌, ◌<◌, true, not, List, length, drop, Ok, ap, arith}
 use Rattle.std.proofs.lemmas.Bool.Decides.{nat_tests}
 use Rattle.tree.specs.Meaning.{Code}
 use Rattle.records.specs.Keys.{Key, Shown}
-use Rattle.records.specs.Records.{field, key_length, release_length, hash_number_of, code_number_of, height_of, spare_of, leaf_of, row_of}
-use Rattle.records.specs.Rules.{refuse, after, header_rule, open_rule, parts_rule, release_rule}
+use Rattle.records.specs.Records.{release_length, height_of, leaf_of, row_of}
+use Rattle.records.specs.Rules.{refuse, after, header_rule, parts_rule, release_rule}
 use Rattle.records.specs.declared.kind.RecordKind.TheVariants as kind
-use Rattle.records.specs.declared.refusal.Refusal.{Refusal}
 use Rattle.records.specs.declared.refusal.Refusal.TheVariants.{Parameters}
 use Rattle.records.proofs.Facts.{Headed, Opens}
 use Rattle.verifier.specs.Rules.{suited, read_rule}

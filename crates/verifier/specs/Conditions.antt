@@ -21,6 +21,7 @@ pub record Opening : Type 0 where
   pub code : ℕ
   pub levels : ℕ
 
+-- a verifier with these numbers and levels opens the key
 abbrev pub OpenedWith : Opening → Key → Type 0
 OpenedWith by key = open_rule by.hash by.code by.levels key.bytes ≡ Ok key
 
@@ -35,7 +36,7 @@ read_causes hash code by key bytes =
     header_causes kind.Release bytes
     ++ (cause 8 (WrongOpening hash code by) ∷ parts_causes code.count key.height bytes)
 
--- verify
+-- verifying a release record under such a key
 abbrev pub verify_causes : Hash → Code → Opening → Key → List ℕ → List ℕ → List Cause
 verify_causes hash code by key stamp bytes =
     read_causes hash.number code by key bytes

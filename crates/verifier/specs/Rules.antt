@@ -21,7 +21,7 @@ of_height (Err e) h = false
 abbrev pub suited : ℕ → ℕ → ℕ → Key → Bool
 suited hash code levels key = of_height (open_rule hash code levels key.bytes) key.height
 
--- a release record read under an opened key
+-- a release record, read under an opened key: its leaf number and its row of strings
 abbrev pub read_rule : ℕ → Code → Key → List ℕ → Result Shown Refusal
 read_rule hash code key bytes =
     after (header_rule kind.Release bytes)
@@ -38,7 +38,8 @@ parameters_in key =
       height = key.height;
     }
 
--- the root that a release leads to, under the parameters of a key
+-- the root that a release leads to, under the parameters of a key: over its chains, the L-tree
+-- inside the leaf and the authentication path
 abbrev pub root_shown : Hash → Code → Key → List ℕ → Shown → List ℕ
 root_shown hash code key stamp release =
     rebuilt hash code (parameters_in key) release.leaf stamp release.row

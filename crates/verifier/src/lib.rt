@@ -1,4 +1,5 @@
-//! The verifier: opens key records as they lie in the caller's bytes, and says whether a release record opens a box.
+//! The verifier: opens key records as they lie in the caller's bytes, and says whether a release
+//! record opens a box. It changes no byte that it is lent.
 #![tactic(auto)]
 
 mod key;

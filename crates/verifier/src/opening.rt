@@ -11,10 +11,11 @@ use codes::Code;
 use hashes::ChainHash;
 use records::{Refusal, key};
 
-/// Opens a key record as it lies in `bytes`, for a verifier with hash `H` and code `C`. Refuses, in this order: with 6, `Length`, fewer
-/// than 10 bytes or a length field that differs from their number; with 7, `Kind`, another kind of record; with 8, `Parameters`,
-/// another hash or code number; with 9, `Height`, a height outside 1 to 8 or a spare byte other than 0; with 10, `Layout`, another byte
-/// count than 42 + 32 (height + levels).
+/// Opens a key record as it lies in `bytes`, for a verifier with hash `H` and code `C` (`open_rule`
+/// in the specs/ of records). Refuses, in this order: with 6, `Length`, fewer than 10 bytes or a
+/// length field that differs from their number; with 7, `Kind`, another kind of record; with 8,
+/// `Parameters`, another hash or code number; with 9, `Height`, a height outside 1 to 8 or a spare
+/// byte other than 0; with 10, `Layout`, another byte count than 42 + 32 (height + levels).
 pub fn open<H: ChainHash, C: Code>(bytes: &[u8]) -> Result<OpenedKey<'_>, Refusal>
     ensures answer { seen key_of result ≡ open_rule H.ChainHash.NUMBER C.Code.NUMBER C.Code.LEVELS
         bytes.now }
@@ -25,7 +26,8 @@ pub fn open<H: ChainHash, C: Code>(bytes: &[u8]) -> Result<OpenedKey<'_>, Refusa
     Ok(OpenedKey { bytes, height })
 }
 
-/// Whether a verifier with hash `H` and code `C` opens this key too: whether it was opened with the same numbers and levels.
+/// Whether a verifier with hash `H` and code `C` opens this key too (`suited` in specs/): whether
+/// it was opened with the same hash number, code number and number of levels.
 pub fn suits<H: ChainHash, C: Code>(key: &OpenedKey<'_>) -> bool
     ensures answer { result ≡ suited H.ChainHash.NUMBER C.Code.NUMBER C.Code.LEVELS
         (key_of key.now) }

@@ -1,12 +1,12 @@
 //! Reading a release record under an opened key.
 
 ghost use Rattle.std.specs.Prelude.{◌≡◌, ℕ, true, List};
+ghost use Rattle.tree.specs.Meaning.{Code, code_of};
 ghost use Rattle.records.specs.Causes.{Refuses};
 ghost use Rattle.records.specs.Keys.{Key};
 ghost use Rattle.records.specs.Reads.{ReadsReleases};
 ghost use Rattle.records.specs.Rules.{seen};
 ghost use Rattle.records.specs.Views.{shown_by};
-ghost use Rattle.tree.specs.Meaning.{Code, code_of};
 ghost use Rattle.verifier.specs.Conditions.{Opening, OpenedWith, read_causes};
 ghost use Rattle.verifier.specs.Rules.{suited, read_rule};
 ghost use Rattle.verifier.specs.Views.{key_of};
@@ -17,9 +17,11 @@ use codes::Code;
 use hashes::ChainHash;
 use records::{RecordKind, Refusal, Release, body_of, parts_of};
 
-/// Reads a release record as it lies in `bytes`, under an opened key. Refuses, in this order: with 6, `Length`, and 7, `Kind`, as
-/// `open`; with 8, `Parameters`, a key that was opened with another hash number, code number or number of levels; with 10, `Layout`,
-/// another byte count than 8 + 16 (count + height); with 11, `Leaf`, a leaf number of 2^height or more.
+/// Reads a release record as it lies in `bytes`, under an opened key: its leaf number and its row
+/// of strings (`read_rule` in specs/). Refuses, in this order: with 6, `Length`, and 7, `Kind`, as
+/// `open`; with 8, `Parameters`, a key that was opened with another hash number, code number or
+/// number of levels; with 10, `Layout`, another byte count than 8 + 16 (count + height); with 11,
+/// `Leaf`, a leaf number of 2^height or more.
 pub fn read_under<'a, H: ChainHash, C: Code>(
     key: &OpenedKey<'_>,
     bytes: &'a [u8],

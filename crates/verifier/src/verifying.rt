@@ -1,9 +1,9 @@
 //! Verifying a release.
 
 ghost use Rattle.std.specs.Prelude.{◌≡◌, ℕ, List};
+ghost use Rattle.tree.specs.Meaning.{Hash, Code, hash_of, code_of};
 ghost use Rattle.records.specs.Causes.{Refuses};
 ghost use Rattle.records.specs.Keys.{Key};
-ghost use Rattle.tree.specs.Meaning.{Hash, Code, hash_of, code_of};
 ghost use Rattle.verifier.specs.Conditions.{Opening, OpenedWith, verify_causes};
 ghost use Rattle.verifier.specs.Rules.{verify_rule};
 ghost use Rattle.verifier.specs.Views.{key_of};
@@ -15,8 +15,10 @@ use hashes::TreeHash;
 use records::Refusal;
 use strings::same;
 
-/// The leaf number of a release record that is good for the stamp, 16 bytes, under the opened key: the root rebuilt from the record
-/// is the key's. Refuses with 6, 7, 8, 10 and 11 as `read_under`, and then with 12, `Root`, a root unlike the key's.
+/// The leaf number of a release record that is good for the stamp, 16 bytes, under the opened key:
+/// the root that is rebuilt from the record, over its chains, the L-tree inside the leaf and the
+/// authentication path, is the key's (`verify_rule` in specs/). Refuses, in this order: with 6, 7,
+/// 8, 10 and 11 as `read_under`; with 12, `Root`, a root unlike the key's.
 pub fn verify<H: TreeHash, C: Code>(
     key: &OpenedKey<'_>,
     stamp: &[u8; 16],

@@ -1,10 +1,11 @@
-//! What an origin gives: the tree's parameters, and from its seed the secrets and the chains over them.
+//! What an origin gives: the tree's parameters, and from its seed the secrets and the chains over
+//! them.
 
 ghost use Rattle.std.specs.Prelude.{◌≡◌, length};
-ghost use Rattle.growth.specs.Grown.{parameters, secret, chain_string};
 ghost use Rattle.tree.specs.Meaning.{hash_of};
 ghost use Rattle.tree.specs.Rows.{masks_size};
 ghost use Rattle.tree.specs.Views.{parameters_of};
+ghost use Rattle.growth.specs.Grown.{parameters, secret, chain_string};
 
 use crate::Origin;
 use hashes::TreeHash;
@@ -13,7 +14,8 @@ use tree::Parameters;
 use tree::chains::raise_chain;
 
 impl Origin {
-    /// The parameters of the tree, apart from its seed.
+    /// The parameters of the tree, which hold no secret: hash key, bitmasks and height are lent,
+    /// the seed is not.
     pub fn parameters(&self) -> Parameters<'_>
         ensures value { parameters_of result ≡ parameters self.now }
         ensures long { length result.masks.now ≡ masks_size }
@@ -25,14 +27,16 @@ impl Origin {
         }
     }
 
-    // The secret of a leaf's chain. No other function makes one from the seed.
+    // The secret of a leaf's chain, 16 bytes: the hash's pair of the two numbers, under the seed as
+    // its key (`secret` in specs/). No other function makes one from the seed.
     fn secret<H: TreeHash>(&self, leaf: u16, chain: usize) -> [u8; 16]
         ensures { result ≡ secret (hash_of H.TreeHash) self.now leaf chain }
     {
         H::pair(&self.seed, &numeral(leaf as u128), &numeral(chain as u128))
     }
 
-    /// The string of a leaf's chain at a height.
+    /// The string of a leaf's chain at a height, 16 bytes: its secret, raised by so many steps of
+    /// the hash chain (`chain_string` in specs/).
     pub fn chain_string<H: TreeHash>(&self, leaf: u16, chain: usize, height: u8) -> [u8; 16]
         ensures { result ≡ chain_string (hash_of H.TreeHash) self.now leaf chain height }
     {

@@ -1,8 +1,8 @@
 //! The parts of an opened key.
 
 ghost use Rattle.std.specs.Prelude.{◌≡◌};
-ghost use Rattle.records.specs.Records.{root_of};
 ghost use Rattle.tree.specs.Views.{parameters_of};
+ghost use Rattle.records.specs.Records.{root_of};
 ghost use Rattle.verifier.specs.Rules.{parameters_in};
 ghost use Rattle.verifier.specs.Views.{key_of};
 
@@ -18,7 +18,8 @@ impl<'a> OpenedKey<'a> {
         self.height
     }
 
-    /// The hash key, the masks of the tree's levels and the height.
+    /// The parameters of the tree: the record's hash key and bitmasks, lent, and the height
+    /// (`parameters_in` in specs/).
     pub(crate) fn parameters(&self) -> Parameters<'a>
         ensures { parameters_of result ≡ parameters_in (key_of self.now) }
     {
@@ -29,6 +30,7 @@ impl<'a> OpenedKey<'a> {
         }
     }
 
+    /// The root, the last 16 bytes of the record.
     pub(crate) fn root(&self) -> &'a [u8; 16]
         ensures { result.now ≡ root_of (key_of self.now).bytes }
     {

@@ -7,8 +7,8 @@ use Rattle.compare.specs.declared.verdict.Find.{Find}
 use Rattle.compare.proofs.Firsts.{last_none, last_more}
 use Rattle.compare.proofs.chains.raise_both.Goals as goal
 
-pub loop-e-init : goal.loop-e-init
-loop-e-init g c =
+pub loop-height-init : goal.loop-height-init
+loop-height-init g c =
     let step = g.H.ChainHash.steps c.args.key.now in
     let none : 0 ≡ c.args.from - c.args.from = omega arith in (
       sym (raise-none step _) ∙ ap (λ n. raise step n c.args.start.now.ours) none,
@@ -16,16 +16,16 @@ loop-e-init g c =
       sym (last_none _ _) ∙ ap (last_from _ c.args.from) none,
     )
 
-pub loop-e-preserved : goal.loop-e-preserved
-loop-e-preserved g c =
+pub loop-height-preserved : goal.loop-height-preserved
+loop-height-preserved g c =
     let step = g.H.ChainHash.steps c.args.key.now in
     let from = c.args.from in
-    let e = c.loop-e.e in
+    let e = c.loop-height.height in
     let ours = c.args.start.now.ours in
     let theirs = c.args.start.now.theirs in
     let at : ℕ → Option Find = λ n. step_find step c.args.chain n (raise step (n - from) ours) (raise step (n - from) theirs) in
-    let inv = c.loop-e.invariant in
-    let low = c.loop-e.auto.e in
+    let inv = c.loop-height.invariant in
+    let low = c.loop-height.auto.height in
     let more : (e - from) + 1 ≡ e + 1 - from = omega arith in
     let here : e ≡ from + (e - from) = omega arith in (
       cc (raise-more step (e - from) ours),

@@ -8,4 +8,4 @@ loop-init g c = sym (raise-none _ _)
 pub loop-preserved : goal.loop-preserved
 loop-preserved g c =
     let step = g.H.ChainHash.steps c.args.key.now in
-    c.step-at.ensures ∙ ap step c.loop.invariant ∙ raise-more step c.loop.counter c.args.string.now
+    c.step-raised.ensures ∙ ap step c.loop.invariant ∙ raise-more step c.loop.counter c.args.string.now

@@ -1,7 +1,6 @@
 use Rattle.std.proofs.Common.{◌≡◌, ℕ, ◌+◌, ◌*◌, List, length, Ok, sym, ap, arith}
 use Rattle.std.proofs.lemmas.List.{length-drop}
 use Rattle.tree.specs.Meaning.{Code, code_of}
-use Rattle.tree.specs.Nodes.{Parameters}
 use Rattle.records.specs.Keys.{Key, Shown}
 use Rattle.records.specs.Records.{masks_of}
 use Rattle.verifier.specs.Rules.{read_rule}

@@ -2,6 +2,7 @@ use Rattle.std.proofs.Common.{◌≡◌, ◌-◌, ◌≤◌, length}
 use Rattle.strings.specs.Strings.{string_at}
 use Rattle.tree.specs.Meaning.{hash_by}
 use Rattle.tree.specs.Nodes.{parent_at}
+use Rattle.tree.specs.Rows.{work_size}
 use Rattle.growth.specs.Grown.{parameters}
 use Rattle.compare.specs.Search.{first_from, depth_search}
 use Rattle.compare.proofs.Joined.{Level}
@@ -14,8 +15,8 @@ invariant-loop-depth g l =
     let parent = parent_at hash (parameters o) in
     let levels = g.C.Code.LEVELS in
     (l.depth ≤ levels)
-    × (length l.ours ≡ 4096)
-    × (length l.theirs ≡ 4096)
+    × (length l.ours ≡ work_size)
+    × (length l.theirs ≡ work_size)
     × Level parent o.height levels (string_at l.initial.ours) l.depth (string_at l.ours)
     × Level parent o.height levels (string_at l.initial.theirs) l.depth (string_at l.theirs)
     × (l.found ≡ first_from (depth_search hash (parameters o) l.self.leaf levels (string_at l.initial.ours) (string_at l.initial.theirs)) l.depth (levels - l.depth))

@@ -1,7 +1,7 @@
 use Rattle.std.proofs.Common.{◌≡◌, ◌-◌, ◌≤◌, length}
 use Rattle.tree.specs.Meaning.{hash_by, code_of}
 use Rattle.tree.specs.Nodes.{parent_at}
-use Rattle.growth.specs.Grown.{parameters, Holds, carry, with_leaf}
+use Rattle.growth.specs.Grown.{parameters, Holds, carry, with_leaf, nodes_size}
 use Rattle.growth.proofs.Carries.{Comes}
 use Rattle.growth.proofs.Trees.{Fills}
 use Rattle.growth.proofs.origin.Tree.add_leaf.Given as goal
@@ -16,7 +16,7 @@ invariant-loop-position g l =
     (l.level ≤ o.height)
     × Fills l.grown l.position (o.height - l.level)
     × (length l.node ≡ 16)
-    × (length l.nodes ≡ 144)
+    × (length l.nodes ≡ nodes_size)
     × (Holds hash code o l.grown l.initial.nodes → Comes hash code o l.grown l.level l.position l.node l.nodes)
     × (carry (parent_at hash (parameters o)) l.level l.position l.node l.nodes ≡ with_leaf hash code o l.grown l.initial.nodes)
 

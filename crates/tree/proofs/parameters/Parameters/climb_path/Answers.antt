@@ -20,14 +20,14 @@ loop-level-preserved g c =
     let at = (goal.at.loop-level-preserved g c).Start in
     let level = c.loop-level.level in
     let position = c.loop-level.position in
-    let node = c.loop-level.at in
+    let node = c.loop-level.node in
     let inv = c.loop-level.invariant in
     let some = c.loop-level-test.true in
     let up : level - 1 + 1 ≡ level = omega arith in
     let shown = c.sibling_in-sibling.ensures ∙ ap (sibling g at) up in (
       omega (arith, inv.0),
-      climb-turn (parent g at) (sibling g at) (level - 1) level position node c.parent_above-at.result (omega arith)
-          (c.parent_above-at.ensures ∙ ap (above (parent g at) (level - 1) position node) shown)
+      climb-turn (parent g at) (sibling g at) (level - 1) level position node c.parent_above-node.result (omega arith)
+          (c.parent_above-node.ensures ∙ ap (above (parent g at) (level - 1) position node) shown)
           ∙ inv.1,
     )
 
@@ -35,7 +35,7 @@ pub returns : goal.returns
 returns g c =
     let at = (goal.at.returns g c).Start in
     let position = c.loop-level.position in
-    let node = c.loop-level.at in
+    let node = c.loop-level.node in
     let done : 0 ≡ c.loop-level.level = omega arith in
     sym (climb-root (parent g at) (sibling g at) position node)
     ∙ ap (λ a. climb (parent g at) (sibling g at) a position node) done

@@ -1,4 +1,4 @@
-use Rattle.std.proofs.Common.{ℕ, ◌+◌, ◌-◌, ◌*◌, ◌^◌, List, ap, ◌∙◌, zero-mul, arith, pow_mono}
+use Rattle.std.proofs.Common.{ℕ, ◌+◌, ◌*◌, ◌^◌, List, ap, ◌∙◌, zero-mul, arith, pow_mono}
 use Rattle.strings.specs.Strings.{string_at}
 use Rattle.tree.specs.Meaning.{hash_by}
 use Rattle.tree.specs.Nodes.{parent_at, node, climb, one_time}
