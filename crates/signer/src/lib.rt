@@ -4,8 +4,8 @@
 //!
 //! A seed, a hash key, a stamp and a node have 16 bytes each, and the masks 512 (`tree::rows::MASKS`).
 //! The caller lends a work buffer of 4,096 bytes (`tree::rows::WORK`) and a report of 64
-//! (`compare::REPORT`). What a work buffer holds before a call plays no part; after the call all its
-//! bytes are zero, and so they are where the call refuses. No call allocates.
+//! (`compare::REPORT`). What a work buffer holds before a call plays no part; after the call it is
+//! all zero, refused or not. No call allocates.
 #![tactic(auto)]
 
 mod ledger;

@@ -26,7 +26,7 @@ impl<H: TreeHash, C: Code> Maker<H, C> {
     /// key of 16 bytes, and the bitmasks, 512 bytes: string 2a is the left mask of level a, string
     /// 2a + 1 the right one. A tree uses the masks of its own levels, the first 32 (height + levels)
     /// bytes for a code with `levels` levels in a leaf. The seed is secret: with it, the hash key and
-    /// the masks every record of the key can be made. Refuses nothing.
+    /// the masks every record of the key can be made. Refuses nothing, and takes no work buffer.
     pub fn begin(plan: Plan, seed: [u8; 16], hash_key: [u8; 16], masks: [u8; MASKS]) -> Maker<H, C>
         ensures state { making_of result ≡ begin_rule
             (record { seed = seed; hash_key = hash_key; masks = masks; height = height_of_plan plan }) }
@@ -78,7 +78,7 @@ impl<H: TreeHash, C: Code> Maker<H, C> {
     /// The node that is held at a level, as its position, counted from 0, and its 16 bytes: the last
     /// node of that level that the leaves fill, where no larger full subtree has it. With g leaves in,
     /// level a holds a node exactly where bit height - a of g is 1. None where no node of that level
-    /// is held, and where the level is greater than the height. Refuses nothing.
+    /// is held, and where the level is greater than the height. The maker is unchanged.
     pub fn held(&self, level: u8) -> Option<(u16, [u8; 16])>
         ensures value { result ≡ held_rule (making_of self.now) level }
         ensures node { (b : ℕ) (s : List ℕ) → result ≡ Some (b, s) →

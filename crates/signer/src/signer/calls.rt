@@ -75,7 +75,8 @@ impl<H: TreeHash, C: Code> Signer<H, C> {
 
     /// Makes `leaf` the next leaf, and answers it. The leaves that are passed over never sign, and
     /// their rows of the ledger stay empty; after a skip to 2^height no leaf is left. Refuses with 5,
-    /// `Skip`, a number below the next leaf or above 2^height; the signer then stays as it was.
+    /// `Skip`, a number below the next leaf or above 2^height; the signer then stays as it was. Takes
+    /// no work buffer.
     pub fn skip(&mut self, leaf: u16) -> Result<u16, Refusal>
         ensures answer { result ≡ skip_answer (signing_of self.old) leaf }
         ensures refuses { Refuses (skip_causes (signing_of self.old) leaf) result }
@@ -91,7 +92,7 @@ impl<H: TreeHash, C: Code> Signer<H, C> {
     }
 
     /// Takes the signer out of service, and gives a retired one with the same key, next leaf and
-    /// ledger. Refuses nothing.
+    /// ledger. Refuses nothing, and takes no work buffer.
     pub fn retire(self) -> Retired<H, C>
         ensures state { signing_of_retired result ≡ signing_of self }
         ensures lived { Continues (hash_of H.TreeHash) (code_of C.Code)

@@ -21,7 +21,7 @@ impl<H: TreeHash, C: Code> Signer<H, C> {
     /// code, the height, the hash key, the masks of the tree's levels and the root, and no secret; open,
     /// for this hash and code, refuses nothing on it. The bytes of the output past it stay, and the
     /// signer is unchanged. Refuses with 4, `Output`, an output shorter than the record; all of the
-    /// output then stays as it was.
+    /// output then stays as it was. Takes no work buffer.
     pub fn key(&self, out: &mut [u8]) -> Result<usize, Refusal>
         ensures answer { result ≡ key_answer (code_of C.Code) (signing_of self.now) out.old }
         ensures refuses { Refuses (key_causes (code_of C.Code) (signing_of self.now) out.old) result }

@@ -41,9 +41,9 @@ impl<H: TreeHash, C: Code> Signer<H, C> {
     ///
     /// Refuses what verify refuses under the signer's own key record, in this order: with 6, `Length`,
     /// fewer than 10 bytes or a length field that differs from their number; with 7, `Kind`, another
-    /// kind than a release; with 10, `Layout`, another byte count than 8 + 16 (count + height); with
-    /// 11, `Leaf`, a leaf number of 2^height or more; with 12, `Root`, a rebuilt root unlike the
-    /// signer's. The report then stays as it was.
+    /// kind than a release; with 10, `Layout`, another byte count than 8 + 16 (count + height), for a
+    /// code with `count` chains; with 11, `Leaf`, a leaf number of 2^height or more; with 12, `Root`, a
+    /// rebuilt root unlike the signer's. The report then stays as it was.
     ///
     /// The signer is unchanged. The work buffer, 4,096 bytes, is all zero after, refused or not.
     pub fn trace<'a>(
