@@ -27,6 +27,7 @@ pub struct Maker<H: TreeHash, C: Code> {
     code: PhantomData<C>,
     ghost tall: { (1 ≤ origin.height) × (origin.height ≤ 8) },
     ghost few: { grown ≤ 2 ^ origin.height },
+    // Each level holds what it should after that many leaves, and nothing else.
     pub ghost holds: { Holds (hash_by H.ChainHash H.TreeHash) (code_of C.Code) origin grown nodes },
     ghost bytes: { (i : ℕ) → (slice_index origin.seed i < 256)
         × (slice_index origin.hash_key i < 256) × (slice_index origin.masks i < 256) },

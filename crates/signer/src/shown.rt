@@ -29,6 +29,7 @@ impl<H: TreeHash, C: Code> ReleaseRow for Shown<'_, '_, H, C> {
     ghost strings = { λ shown. shown_string (hash_of H.TreeHash) (code_of C.Code)
         shown.tree.origin.now shown.leaf shown.stamp.now };
 
+    /// String `k`, 16 bytes. The work buffer is used up.
     fn string(&self, k: usize, work: &mut [u8; WORK]) -> [u8; 16] {
         self.tree.shown_string(self.leaf, self.stamp, k, work)
     }

@@ -34,6 +34,7 @@ pub struct Signer<H: TreeHash, C: Code> {
     pub(crate) code: PhantomData<C>,
     pub ghost tall: { (1 ≤ origin.height) × (origin.height ≤ 8) },
     pub ghost within: { next ≤ 2 ^ origin.height },
+    // The root is that of the tree which the origin gives.
     pub ghost rooted: { root ≡ node_at (hash_by H.ChainHash H.TreeHash) (code_of C.Code) origin 0 0 },
     ghost sized: { (length origin.hash_key ≡ 16) × (length origin.masks ≡ masks_size) × (length root ≡ 16) },
     // No leaf from the next one on has a stamp.
