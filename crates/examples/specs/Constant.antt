@@ -3,6 +3,7 @@ use Rattle.std.specs.Prelude.{ℕ, List}
 use Rattle.std.proofs.Common.{rules}
 use Rattle.strings.specs.Strings.{Str, zero_string}
 
+-- the zero string is a string
 pub constant-str : Str zero_string
 constant-str = search rules
 

@@ -3,18 +3,18 @@ use Rattle.std.specs.Prelude.{◌≡◌, ℕ, List, [], ◌∷◌, ◌++◌, map
 use Rattle.std.specs.List.{range_with_len, flat_map, AllByRecursion}
 use Rattle.strings.specs.Strings.{string_at, put_string}
 use Rattle.codes.specs.Codes.{checksum, ending}
+use Rattle.tree.specs.Known.{practice}
 use Rattle.tree.specs.Meaning.{Code}
 use Rattle.tree.specs.Nodes.{join}
 use Rattle.tree.specs.Rows.{masks_size}
-use Rattle.compare.specs.Found.{report_size}
 use Rattle.growth.specs.Grown.{secret}
 use Rattle.records.specs.Records.{key_length, release_length, row_of}
 use Rattle.records.specs.Refusals.{refusal_number}
 use Rattle.records.specs.declared.refusal.Refusal.{Refusal}
-use Rattle.rules.specs.Rules.{sign_answer, sign_state, sign_output, skip_answer, skip_state}
-use Rattle.rules.specs.Rules.{trace_answer, trace_report}
+use Rattle.compare.specs.Found.{report_size}
+use Rattle.rules.specs.Rules.{release_size, sign_answer, sign_state, sign_output, skip_answer}
+use Rattle.rules.specs.Rules.{skip_state, trace_answer, trace_report}
 use Rattle.rules.specs.States.{Signing}
-use Rattle.tree.specs.Known.{practice}
 use Rattle.examples.specs.Setting.{string, code1, code2, code3, origin, fresh}
 
 -- numbers, or a refusal by its number
@@ -22,13 +22,16 @@ pub data Outcome : Type 0 where
   gives : List ℕ → Outcome
   refused : ℕ → Outcome
 
+-- an example: an outcome that is computed by the definitions, and what it must be
 pub record Example : Type 0 where
   pub computed : Outcome
   pub expected : Outcome
 
+-- an example holds: the two outcomes are the same
 abbrev pub Right : Example → Type 0
 Right e = e.computed ≡ e.expected
 
+-- the example of two outcomes
 abbrev pub example : Outcome → Outcome → Example
 example computed expected = record { computed = computed; expected = expected }
 
@@ -36,30 +39,34 @@ example computed expected = record { computed = computed; expected = expected }
 abbrev pub strings : List ℕ → Outcome
 strings bs = gives (flat_map string bs)
 
--- what a call answers
+-- what a call answers: a number
 abbrev pub answered : Result ℕ Refusal → Outcome
 answered (Ok n) = gives (n ∷ [])
 answered (Err e) = refused (refusal_number e)
 
+-- two numbers
 abbrev pub answered_two : Result (ℕ × ℕ) Refusal → Outcome
 answered_two (Ok n) = gives (n.0 ∷ n.1 ∷ [])
 answered_two (Err e) = refused (refusal_number e)
 
+-- three numbers
 abbrev pub answered_three : Result (ℕ × ℕ × ℕ) Refusal → Outcome
 answered_three (Ok n) = gives (n.0 ∷ n.1 ∷ n.2 ∷ [])
 answered_three (Err e) = refused (refusal_number e)
 
--- the hash and the tree, under a hash key of zeros
+-- a step of the practice hash, under a hash key of zeros
 abbrev pub stepped : ℕ → Outcome
 stepped b = gives (practice.step (string 0) (string b))
 
+-- a pair of it, under the same key
 abbrev pub paired : ℕ → ℕ → Outcome
 paired l r = gives (practice.pair (string 0) (string l) (string r))
 
--- a row of masks with these two at level 3
+-- masks that are zero but for these two at level 3
 abbrev pub masks : ℕ → ℕ → List ℕ
 masks l r = put_string (put_string (replicate masks_size 0) 6 (string l)) 7 (string r)
 
+-- a collision of step and one of pair, a parent under masks, and a secret of a seed
 abbrev pub hashing : List Example
 hashing =
     example (stepped 6) (strings (3 ∷ []))
@@ -75,6 +82,7 @@ hashing =
 abbrev pub digits_from : Code → ℕ → ℕ → List ℕ → Outcome
 digits_from code k n stamp = gives (map (code.digit stamp) (range_with_len k n))
 
+-- the checksum's digits under both Winternitz codes
 abbrev pub coding : List Example
 coding =
     example (digits_from code2 64 5 (string 0)) (gives (1 ∷ 0 ∷ 0 ∷ 0 ∷ 0 ∷ []))
@@ -90,26 +98,30 @@ coding =
 abbrev pub lengths : Code → ℕ → Outcome
 lengths code h = gives (key_length h code.levels ∷ release_length code.count h ∷ [])
 
+-- the longest records that there are, and the shortest
 abbrev pub measuring : List Example
 measuring =
     example (lengths code1 8) (gives (554 ∷ 4232 ∷ []))
     ∷ example (lengths code3 1) (gives (266 ∷ 584 ∷ []))
     ∷ []
 
--- height 1: a new signer, after a skip to 2, and after another
+-- a new signer of height 1
 abbrev pub new : Signing
 new = fresh code1 1
 
+-- that signer after a skip to 2
 abbrev pub once : Signing
 once = skip_state new 2
 
+-- and after another
 abbrev pub twice : Signing
 twice = skip_state once 2
 
--- an output with room for one release record
+-- an output as long as one release record
 abbrev pub output : List ℕ
-output = replicate 4120 0
+output = replicate (release_size code1 new) 0
 
+-- a skip to the end and what is refused there
 abbrev pub skipping : List Example
 skipping =
     example (answered (skip_answer new 2)) (gives (2 ∷ []))
@@ -119,11 +131,11 @@ skipping =
     ∷ example (answered (skip_answer twice 3)) (refused 5)
     ∷ []
 
--- height 1: what a new signer writes for a stamp, and the signer once it has signed the stamp of
--- zeros
+-- what the new signer writes for a stamp
 abbrev pub written : List ℕ → List ℕ
 written stamp = sign_output practice code1 new stamp output
 
+-- that signer once it has signed the stamp of zeros
 abbrev pub signed : Signing
 signed = sign_state code1 new (string 0) output
 
@@ -135,22 +147,25 @@ changed k b bytes = take 8 bytes ++ put_string (row_of bytes) k (string b)
 abbrev pub shown : ℕ → Outcome
 shown k = gives (string_at (row_of (written (string 0))) k)
 
--- that record, with one string changed, and with two
+-- that record with one string changed
 abbrev pub one_changed : List ℕ
 one_changed = changed 6 7 (written (string 0))
 
+-- and with two
 abbrev pub two_changed : List ℕ
 two_changed = changed 3 0 (changed 1 1 (written (string 0)))
 
--- what trace answers, and the first n strings of its report
+-- what trace answers
 abbrev pub verdict : List ℕ → List ℕ → Outcome
 verdict stamp bytes = answered_three (trace_answer practice code1 signed stamp bytes)
 
+-- the first n strings of its report
 abbrev pub reported : ℕ → List ℕ → List ℕ → Outcome
 reported n stamp bytes =
     let report = trace_report practice code1 signed stamp bytes (replicate report_size 0xFF) in
     gives (flat_map (string_at report) (range_with_len 0 n))
 
+-- strings that a record shows, each verdict, and two reports
 abbrev pub tracing : List Example
 tracing =
     example (shown 1) (strings (0 ∷ []))
@@ -164,9 +179,10 @@ tracing =
     ∷ example (verdict (string 0x80) (written (string 0x80))) (gives (3 ∷ 1 ∷ 0 ∷ []))
     ∷ []
 
--- all examples, and that they hold
+-- all examples
 unfoldable pub examples : List Example
 examples = hashing ++ (coding ++ (measuring ++ (skipping ++ tracing)))
 
+-- they hold
 abbrev pub Worked : Type 0
 Worked = AllByRecursion Right examples

@@ -11,21 +11,23 @@ use Rattle.rules.specs.States.{Signing}
 abbrev pub string : ℕ → List ℕ
 string b = b ∷ replicate 15 0
 
--- the codes by their numbers
+-- the codes by their numbers: 1, the Lamport-Diffie code
 abbrev pub code1 : Code
 code1 = lamport_diffie_code
 
+-- 2, the Winternitz code with digits of 2 bits
 abbrev pub code2 : Code
 code2 = winternitz2_code
 
+-- 3, the Winternitz code with digits of 4 bits
 abbrev pub code3 : Code
 code3 = winternitz4_code
 
--- seed, hash key and masks zero
+-- what is grown from at height h: seed, hash key and masks are zero
 abbrev pub origin : ℕ → Origin
 origin h =
     record { seed = string 0; hash_key = string 0; masks = replicate masks_size 0; height = h }
 
--- the signer that finish gives
+-- the signer that finish gives, of a key of height h
 abbrev pub fresh : Code → ℕ → Signing
 fresh code h = finish_state practice code (begin_rule (origin h))

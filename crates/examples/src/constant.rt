@@ -1,13 +1,14 @@
 //! The worst hash that there can be.
 
-ghost use Rattle.examples.specs.Constant.{constant-str};
 ghost use Rattle.std.proofs.Common.{rules};
 ghost use Rattle.strings.specs.Strings.{zero_string};
+ghost use Rattle.examples.specs.Constant.{constant-str};
 
 use hashes::{ChainHash, TreeHash};
 
-/// A hash that gives the zero string whatever it is given. It keeps the laws of hashes, so all that is promised over every hash
-/// holds over it: of a record that was not issued, trace shows two inputs that collide.
+/// The tree hash number 0, which gives the zero string whatever it is given. It keeps the laws of
+/// hashes, so all that is promised over every hash holds over it: where verify accepts a record that
+/// was not issued, trace shows a break.
 pub struct ConstantHash;
 
 impl ChainHash for ConstantHash {
@@ -21,6 +22,7 @@ impl ChainHash for ConstantHash {
 
     ghost gives = { λ k s _ _. constant-str };
 
+    /// The zero string, 16 bytes.
     fn step(_key: &[u8; 16], _string: &[u8; 16]) -> [u8; 16] {
         [0; 16]
     }
@@ -31,6 +33,7 @@ impl TreeHash for ConstantHash {
 
     ghost joins = { λ k l r _ _ _. constant-str };
 
+    /// The zero string, 16 bytes.
     fn pair(key: &[u8; 16], left: &[u8; 16], _right: &[u8; 16]) -> [u8; 16] {
         Self::step(key, left)
     }

@@ -10,7 +10,8 @@ mod constant;
 
 pub use constant::ConstantHash;
 
-/// How many examples there are, all of which hold; and no code that is blind to the stamp keeps the law of codes.
+/// How many worked examples there are. All of them hold, as its clauses say; and no code that is blind
+/// to the stamp keeps the law of codes. Refuses nothing.
 pub fn worked_examples() -> usize
     ensures count { result ≡ length examples }
     ensures worked { Worked }

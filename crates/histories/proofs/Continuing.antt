@@ -6,9 +6,8 @@ use Rattle.strings.specs.Strings.{Str}
 use Rattle.tree.specs.Meaning.{Hash, Code}
 use Rattle.records.specs.declared.refusal.Refusal.{Refusal}
 use Rattle.histories.specs.Histories.{State, growing, serving, retired, IsSigner, Event, grow, finish, key, sign, skip, retire, trace, Lived, grows, finishes, writes_key, signs, skips, retires, traces, begun, called, HasLived, Continues}
-use Rattle.rules.specs.States.{Begun}
 use Rattle.rules.specs.Rules.{begin_rule, grow_answer, grow_state, finish_state, key_answer, key_output, sign_answer, sign_state, sign_output, skip_answer, skip_state, trace_answer, trace_report}
-use Rattle.rules.specs.States.{Making, Signing}
+use Rattle.rules.specs.States.{Begun, Making, Signing}
 
 module _ (hash : Hash) (code : Code) where
   -- calls and states that are equal continue the same histories

@@ -2,7 +2,7 @@
 use Rattle.std.proofs.Common.{◌≡◌, ℕ, zero, suc, ◌+◌, ◌-◌, ◌^◌, ◌<◌, ◌≤◌, Bool, true, false, cond, ◌||◌, ◌⊎◌, List, [], ◌∷◌, length, get_or, take, replicate, Some, None, Ok, Err, Option, Result, sym, refl, ap, ◌∙◌, subst, inl, inr, ⊎_elim, arith, pow_mono}
 use Rattle.std.proofs.lemmas.List.{length-set, get_or-set_same, get_or-set_other, take_at}
 use Rattle.std.proofs.lemmas.Bool.{cond-false, or_parts, eqb-false, cases_eq}
-use Rattle.growth.specs.Grown.{node_at, Holds}
+use Rattle.growth.specs.Grown.{nodes_size, node_at, Holds}
 use Rattle.growth.specs.Shown.{shown_row}
 use Rattle.growth.specs.declared.origin.Origin.{Origin}
 use Rattle.growth.proofs.Carries.{holds_more}
@@ -14,9 +14,8 @@ use Rattle.records.specs.declared.refusal.Refusal.{Refusal}
 use Rattle.records.specs.declared.refusal.Refusal.TheVariants.{Spent, Output}
 use Rattle.std.proofs.lemmas.Option.{none-some, same_Some}
 use Rattle.histories.specs.Histories.{Event, grow, finish, key, sign, skip, retire, trace, History, Issued, issues, here, there}
-use Rattle.rules.specs.States.{Begun}
 use Rattle.rules.specs.Rules.{Rooted, leaf_more, leaves_more, finish_state, release_size, release_record, leaf_spent, all_spent, no_room, sign_answer, sign_output}
-use Rattle.rules.specs.States.{Making, Signing}
+use Rattle.rules.specs.States.{Begun, Making, Signing, ledger_rows}
 use Rattle.rules.proofs.Accepting.{row-filled}
 use Rattle.tree.specs.Laws.{Laws}
 use Rattle.rules.proofs.Laws.{strings}
@@ -34,7 +33,7 @@ pub record Sound (hash : Hash) (code : Code) (o : Origin) (w : History) (s : Sig
   pub begun : Begun s.origin
   pub rooted : Rooted hash code s
   pub within : s.next ≤ 2 ^ s.origin.height
-  pub long : length s.rows ≡ 256
+  pub long : length s.rows ≡ ledger_rows
   pub issued : (i : ℕ) (bytes stamp : List ℕ) → Issued w i bytes stamp → SpentOn hash code s i bytes stamp
   pub entered : (i : ℕ) (stamp : List ℕ) → get_or s.rows i None ≡ Some stamp → Issued w i (release_bytes i (shown_row hash code s.origin i stamp)) stamp
 
@@ -42,7 +41,7 @@ pub record Sound (hash : Hash) (code : Code) (o : Origin) (w : History) (s : Sig
 pub record Growing (hash : Hash) (code : Code) (m : Making) : Type 0 where
   pub begun : Begun m.origin
   pub within : m.grown ≤ 2 ^ m.origin.height
-  pub long : length m.nodes ≡ 144
+  pub long : length m.nodes ≡ nodes_size
   pub held : Holds hash code m.origin m.grown m.nodes
 
 -- what a call issued

@@ -1,15 +1,15 @@
 -- The calls behind a signer, and the state that they lead to.
 use Rattle.std.specs.Prelude.{ℕ, List, [], ◌∷◌, take, Ok, Result}
-use Rattle.growth.specs.declared.origin.Origin.{Origin}
 use Rattle.strings.specs.Strings.{Str}
 use Rattle.tree.specs.Meaning.{Hash, Code}
+use Rattle.growth.specs.declared.origin.Origin.{Origin}
 use Rattle.records.specs.declared.refusal.Refusal.{Refusal}
 use Rattle.rules.specs.Rules.{begin_rule, grow_answer, grow_state, finish_state, key_answer}
 use Rattle.rules.specs.Rules.{key_output, sign_answer, sign_state, sign_output, skip_answer}
 use Rattle.rules.specs.Rules.{skip_state, trace_answer, trace_report}
 use Rattle.rules.specs.States.{Begun, Making, Signing}
 
--- a key: being grown, in service, or retired
+-- a key: a maker that is growing, or a signer in service or retired
 pub data State : Type 0 where
   growing : Making → State
   serving : Signing → State
@@ -20,7 +20,7 @@ pub data IsSigner : State → Signing → Type 0 where
   in_service : (s : Signing) → IsSigner (serving s) s
   out_of_service : (s : Signing) → IsSigner (retired s) s
 
--- a call: what it was given, what it answered, and what it left in the output or the report
+-- a call: what it was given, what it answered, and what was in the output or the report after
 pub data Event : Type 0 where
   grow : (answer : Result ℕ Refusal) → Event
   finish : Event
@@ -35,7 +35,8 @@ pub data Event : Type 0 where
 abbrev pub History : Type 0
 History = List Event
 
--- a call leads from one state to the next, by the rule of that call
+-- a call leads from one state to the next, by the rule of that call; key and trace, of a signer in
+-- service or retired, leave the state as it was
 pub data Leads (hash : Hash) (code : Code) : State → Event → State → Type 0 where
   grows : (m : Making) →
       Leads hash code (growing m) (grow (grow_answer m)) (growing (grow_state hash code m))

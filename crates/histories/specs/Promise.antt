@@ -2,15 +2,15 @@
 -- record.
 use Rattle.std.specs.Prelude.{◌≡◌, ◌≢◌, ℕ, ◌<◌, ◌≤◌, ◌⊎◌, List, ◌∷◌, ◌++◌, take, drop}
 use Rattle.std.specs.Prelude.{replicate, Ok, Result}
-use Rattle.compare.specs.Found.{Found, report_size, verdict_numbers, verdict_report}
-use Rattle.compare.specs.declared.verdict.Verdict.{Verdict}
-use Rattle.growth.specs.Grown.{chain_string}
-use Rattle.growth.specs.declared.origin.Origin.{Origin}
 use Rattle.strings.specs.Strings.{string_at}
 use Rattle.tree.specs.Meaning.{Hash, Code}
 use Rattle.tree.specs.Rows.{chain_in}
+use Rattle.growth.specs.Grown.{chain_string}
+use Rattle.growth.specs.declared.origin.Origin.{Origin}
 use Rattle.records.specs.Records.{row_of}
 use Rattle.records.specs.declared.refusal.Refusal.{Refusal}
+use Rattle.compare.specs.Found.{Found, report_size, verdict_numbers, verdict_report}
+use Rattle.compare.specs.declared.verdict.Verdict.{Verdict}
 use Rattle.rules.specs.Rules.{Accepts, traced_by}
 use Rattle.rules.specs.States.{Signing}
 use Rattle.histories.specs.Histories.{State, IsSigner, Event, History, Lived}
@@ -35,7 +35,7 @@ Revealed code w i k e =
     (e ≡ code.top)
     ⊎ ((bytes : List ℕ) × (stamp : List ℕ) × RevealedBy code w i k e bytes stamp)
 
--- an answer of trace
+-- an answer of trace: a verdict and two numbers, or a refusal
 abbrev pub TraceAnswer : Type 0
 TraceAnswer = Result (ℕ × ℕ × ℕ) Refusal
 
@@ -47,14 +47,15 @@ VerdictOurs r = (x : ℕ) × (y : ℕ) × (r ≡ Ok (0, x, y))
 abbrev pub SaysOurs : ℕ → TraceAnswer → List ℕ → Type 0
 SaysOurs i r report = (r ≡ Ok (0, i, 0)) × (report ≡ replicate report_size 0)
 
--- a report of two different inputs of pair with one value
+-- a report of two different inputs of pair with one value (a collision of pair): its strings 0 and
+-- 1, and its strings 2 and 3
 pub record PairBreak (hash : Hash) (key report : List ℕ) : Type 0 where
   pub differ : take 32 report ≢ drop 32 report
   pub meet :
       hash.pair key (string_at report 0) (string_at report 1)
       ≡ hash.pair key (string_at report 2) (string_at report 3)
 
--- a report of two different strings that step to one
+-- a report of two different strings that step to one (a collision of step)
 pub record StepBreak (hash : Hash) (key report : List ℕ) : Type 0 where
   pub differ : string_at report 0 ≢ string_at report 1
   pub meet : hash.step key (string_at report 0) ≡ hash.step key (string_at report 1)
@@ -89,10 +90,11 @@ pub record ShowsFirst (hash : Hash) (code : Code) (s : Signing) (stamp bytes : L
   pub answers : r ≡ Ok (verdict_numbers i v)
   pub reports : report ≡ verdict_report v
 
--- of a history w that leads to the signer s, which answers r to a stamp and a record and leaves
--- this report
+-- what is promised of a history w that leads to the signer s, which answers r to a stamp and a
+-- record and leaves this report
 pub record Promise (hash : Hash) (code : Code) (w : History) (s : Signing) (stamp bytes : List ℕ)
     (r : TraceAnswer) (report : List ℕ) : Type 0 where
+  -- no leaf number is handed out twice
   pub once : Once w
   -- verify accepts each record issued, with its stamp, as the leaf it was issued for
   pub accepted : (i : ℕ) (issued m : List ℕ) → Issued w i issued m →
@@ -102,6 +104,7 @@ pub record Promise (hash : Hash) (code : Code) (w : History) (s : Signing) (stam
   -- 0, i and 0, and leaves a report of zeros
   pub ours : (i : ℕ) → Accepts hash code s stamp bytes i → VerdictOurs r →
       Issued w i bytes stamp × SaysOurs i r report
+  -- and of each record issued, with its stamp, it says so
   pub issued : (i : ℕ) → Issued w i bytes stamp → SaysOurs i r report
   -- otherwise it shows a break: what is to be found first, and what that means
   pub broken : (i : ℕ) → Accepts hash code s stamp bytes i →

@@ -14,8 +14,20 @@ type Making = Maker<Practice, Winternitz4>;
 
 type Signing = Signer<Practice, Winternitz4>;
 
-// A release record of this key: 8 + 16 (35 + 2) bytes.
+// The chains of a leaf: as many digits as the code writes.
+const CHAINS: usize = 35;
+
+// The bytes of a release record of this key, whose height is 2: 8 + 16 (CHAINS + 2).
 const RELEASE: usize = 600;
+
+// The bytes of the buffer in which the signer works.
+const WORK: usize = 4096;
+
+// The bytes of a report of trace.
+const REPORT: usize = 64;
+
+// The bytes of the room for the key record, which has 298.
+const ROOM: usize = 1024;
 
 // What the words of the story mean.
 const WORDS: [&str; 4] = [
@@ -34,12 +46,12 @@ fn begun(plan: Plan) -> Making {
 fn publish<'a>(
     rt: &HostRuntime,
     key: &Signing,
-    out: &'a mut [u8; 1024],
+    out: &'a mut [u8; ROOM],
 ) -> anyhow::Result<&'a [u8]> {
     if let Err(refusal) = key.key(&mut out[0..100]) {
         tell_refusal(rt, "Writing the key record into 100 bytes", refusal)?;
     }
-    let length = key.key(out).unwrap_or(0).min(1024);
+    let length = key.key(out).unwrap_or(0).min(ROOM);
     println!(rt; "The key record has {length} bytes. It goes into the boxes; it holds no secret.")?;
     Ok(&out[..length])
 }
@@ -81,7 +93,7 @@ impl Locked<'_> {
 struct Depot<'a> {
     rt: &'a HostRuntime,
     plan: Plan,
-    work: [u8; 4096],
+    work: [u8; WORK],
 }
 
 impl Depot<'_> {
@@ -132,14 +144,15 @@ impl Depot<'_> {
 
     // What tracing a record answers.
     fn trace(&mut self, key: &Signing, order: u8, release: &[u8; RELEASE]) -> anyhow::Result<()> {
-        let mut report = [0; 64];
+        let mut report = [0; REPORT];
         match key.trace(&[order; 16], release, &mut report, &mut self.work) {
             Ok(verdict) => tell_verdict(self.rt, verdict, &report),
             Err(refusal) => tell_refusal(self.rt, "  Tracing", refusal),
         }
     }
 
-    // Records come back: the first as it was, the others tampered with or forged; the verifier opens for all of them but the last.
+    // Records come back: the first as it was, the others tampered with or forged. The verifier opens
+    // for all of them but the last.
     fn specimens(
         &mut self,
         key: &Signing,
@@ -165,7 +178,7 @@ impl Depot<'_> {
         self.trace(key, 7, &forged)?;
         println!(self.rt; "A record of leaf 0 comes back with a string of its way up changed.")?;
         let mut cut = *first;
-        tampering::step_twin(&mut cut, 35);
+        tampering::step_twin(&mut cut, CHAINS);
         locked.check(1, &cut)?;
         self.trace(key, 1, &cut)
     }
@@ -181,12 +194,12 @@ fn main(rt: HostRuntime) -> anyhow::Result<()> {
     let mut depot = Depot {
         rt: &rt,
         plan: Plan::new(2)?,
-        work: [0; 4096],
+        work: [0; WORK],
     };
     let maker = depot.begin()?;
     let mut key = maker.finish(&mut depot.work);
     println!(rt; "The leaves that lacked are grown, and the key is in service.")?;
-    let mut out = [0; 1024];
+    let mut out = [0; ROOM];
     let record = publish(&rt, &key, &mut out)?;
     let locked = Locked { rt: &rt, record };
     let first = depot.release(&mut key, locked, 1)?;

@@ -1,25 +1,27 @@
 //! What is printed of refusals, strings and verdicts.
 
-use strings::Hex;
+use crate::REPORT;
 use records::Refusal;
+use strings::Hex;
 
+/// What was refused, and the refusal's number.
 pub(crate) fn tell_refusal(rt: &HostRuntime, what: &str, refusal: Refusal) -> anyhow::Result<()> {
     println!(rt; "{what} is refused with {refusal}.")?;
     Ok(())
 }
 
-/// A verdict, in words.
+/// A verdict and its two numbers in words, and the strings of its report in hex.
 pub(crate) fn tell_verdict(
     rt: &HostRuntime,
-    (kind, first, second): (u8, u16, u16),
-    report: &[u8; 64],
+    (verdict, first, second): (u8, u16, u16),
+    report: &[u8; REPORT],
 ) -> anyhow::Result<()> {
     let strings = report.as_chunks::<16>().0;
     let one = Hex(&strings[0]);
     let two = Hex(&strings[1]);
     let three = Hex(&strings[2]);
     let four = Hex(&strings[3]);
-    match kind {
+    match verdict {
         0 => println!(rt; "  Trace: verdict 0. It is ours, leaf {first}.")?,
         1 => {
             println!(rt;

@@ -1,10 +1,10 @@
 -- Under the signer's own key, verify reads as the signer does, and rebuilds under all of its masks.
-use Rattle.std.proofs.Common.{◌≡◌, ℕ, zero, suc, ◌+◌, ◌-◌, ◌*◌, ◌/◌, ◌%◌, ◌<◌, ◌≤◌, cond, not, eqb, List, length, take, Ok, Err, refl, ap, ◌∙◌, arith}
+use Rattle.std.proofs.Common.{◌≡◌, ℕ, zero, suc, ◌+◌, ◌*◌, ◌/◌, ◌%◌, ◌<◌, ◌≤◌, cond, not, eqb, List, length, take, Ok, Err, refl, ap, ◌∙◌, arith}
 use Rattle.std.specs.Str.{bytes_eq}
 use Rattle.std.proofs.lemmas.Bool.{cond-false, not_from_true}
 use Rattle.growth.proofs.Leads.{node-under}
 use Rattle.growth.proofs.Strings.{Strings, at_take}
-use Rattle.strings.specs.Strings.{xor, string_at}
+use Rattle.strings.specs.Strings.{xor}
 use Rattle.tree.specs.Meaning.{Hash, Code}
 use Rattle.tree.specs.Nodes as nodes
 use Rattle.tree.specs.Nodes.{parent_at, node, climb, one_time}

@@ -1,8 +1,8 @@
 -- The refusals of the signer's calls: the condition of each, and each call's list in its order.
 use Rattle.std.specs.Prelude.{◌≡◌, ℕ, ◌^◌, ◌<◌, ◌≢◌, ◌⊎◌, List, [], ◌∷◌, ◌++◌, length}
-use Rattle.growth.specs.Grown.{parameters}
 use Rattle.tree.specs.Meaning.{Hash, Code}
 use Rattle.tree.specs.Rebuilt.{rebuilt}
+use Rattle.growth.specs.Grown.{parameters}
 use Rattle.records.specs.Causes.{Cause, cause}
 use Rattle.records.specs.Conditions.{release_causes}
 use Rattle.records.specs.Records.{leaf_of, row_of}
@@ -35,27 +35,27 @@ abbrev pub WrongOwnRoot : Hash → Code → Signing → List ℕ → List ℕ �
 WrongOwnRoot hash code s stamp bytes =
     rebuilt hash code (parameters s.origin) (leaf_of bytes) stamp (row_of bytes) ≢ s.root
 
--- the plan of a key
+-- the refusals of a plan
 abbrev pub plan_causes : ℕ → List Cause
 plan_causes height = cause 1 (WrongPlan height) ∷ []
 
--- grow
+-- those of grow
 abbrev pub grow_causes : Making → List Cause
 grow_causes m = cause 2 (AllGrown m) ∷ []
 
--- key
+-- those of key
 abbrev pub key_causes : Code → Signing → List ℕ → List Cause
 key_causes code s out = cause 4 (NoRoom out (key_size code s)) ∷ []
 
--- sign
+-- those of sign
 abbrev pub sign_causes : Code → Signing → List ℕ → List Cause
 sign_causes code s out = cause 3 (AllSpent s) ∷ (cause 4 (NoRoom out (release_size code s)) ∷ [])
 
--- skip
+-- those of skip
 abbrev pub skip_causes : Signing → ℕ → List Cause
 skip_causes s leaf = cause 5 (WrongSkip s leaf) ∷ []
 
--- trace: 6, 7, 10 and 11 of a record that is read by its own signer, then 12
+-- those of trace: 6, 7, 10 and 11 of a record that is read by its own signer, then 12
 abbrev pub trace_causes : Hash → Code → Signing → List ℕ → List ℕ → List Cause
 trace_causes hash code s stamp bytes =
     release_causes code.count s.origin.height bytes

@@ -1,18 +1,19 @@
 -- What a maker and a signer hold, as values.
 use Rattle.std.specs.Prelude.{◌≡◌, ℕ, ◌≤◌, Bool, true, false, List, length, Some, None, Option}
-use Rattle.growth.specs.declared.origin.Origin.{Origin}
 use Rattle.strings.specs.Strings.{Bytes, Str}
 use Rattle.tree.specs.Rows.{masks_size}
+use Rattle.growth.specs.declared.origin.Origin.{Origin}
 
--- what begin may be given: strings as seed and hash key, 512 bytes of masks, and a planned height
+-- what begin may be given: a planned height, strings as seed and hash key, and the bitmasks, a left
+-- and a right one for each of 16 levels
 pub record Begun (o : Origin) : Type 0 where
   pub tall : (1 ≤ o.height) × (o.height ≤ 8)
   pub seeded : Str o.seed
   pub keyed : Str o.hash_key
   pub masked : (length o.masks ≡ masks_size) × Bytes o.masks
 
--- a key that is being grown: what it is grown from, how many leaves are in, and the nodes that are
--- held
+-- a key that is being grown: what it is grown from, how many leaves are in, and the row of nodes
+-- that are held (the treehash stack)
 pub record Making : Type 0 where
   pub origin : Origin
   pub grown : ℕ

@@ -1,20 +1,20 @@
 -- What a maker and a signer hold, by their types.
-use Rattle.std.proofs.Common.{◌≡◌, ℕ, ◌<◌, ◌≤◌, List, length, get_or}
+use Rattle.std.proofs.Common.{◌≡◌, ℕ, ◌<◌, ◌≤◌, length, get_or}
 use Rattle.std.proofs.ByRecursion.{All-from_get_or}
 use Rattle.codes.specs.declared.Code as code_trait
 use Rattle.hashes.specs.declared.ChainHash as chain_hash
 use Rattle.hashes.specs.declared.TreeHash as tree_hash
 use Rattle.growth.specs.declared.origin.Origin.{Origin}
 use Rattle.growth.proofs.Strings.{Strings}
-use Rattle.strings.specs.Strings.{Str}
 use Rattle.strings.proofs.Laws.{str-from}
 use Rattle.tree.specs.Laws.{HashLaws}
 use Rattle.tree.specs.Meaning.{Hash}
+use Rattle.tree.specs.Rows.{masks_size}
 use Rattle.rules.specs.States.{Begun}
 use Rattle.signer.specs.declared.signer.Signer.{Signer}
 
 -- arrays of bytes, as long as those of an origin, are strings
-pub begun-from : (o : Origin) → (1 ≤ o.height) × (o.height ≤ 8) → length o.seed ≡ 16 → length o.hash_key ≡ 16 → length o.masks ≡ 512 → ((i : ℕ) → (get_or o.seed i 0 < 256) × (get_or o.hash_key i 0 < 256) × (get_or o.masks i 0 < 256)) → Begun o
+pub begun-from : (o : Origin) → (1 ≤ o.height) × (o.height ≤ 8) → length o.seed ≡ 16 → length o.hash_key ≡ 16 → length o.masks ≡ masks_size → ((i : ℕ) → (get_or o.seed i 0 < 256) × (get_or o.hash_key i 0 < 256) × (get_or o.masks i 0 < 256)) → Begun o
 begun-from o tall seed key masks small =
     record {
       tall = tall;

@@ -1,11 +1,11 @@
 //! A key in service.
 
 ghost use Rattle.std.specs.Prelude.{◌≡◌, ℕ, ◌^◌, ◌<◌, ◌≤◌, true, length, get_or, None, slice_index, slice_index_or};
-ghost use Rattle.growth.specs.Grown.{node_at};
-ghost use Rattle.histories.specs.Histories.{serving, HasLived};
-ghost use Rattle.rules.specs.States.{empty_row};
 ghost use Rattle.tree.specs.Meaning.{hash_by, code_of};
 ghost use Rattle.tree.specs.Rows.{masks_size};
+ghost use Rattle.growth.specs.Grown.{node_at};
+ghost use Rattle.rules.specs.States.{empty_row};
+ghost use Rattle.histories.specs.Histories.{serving, HasLived};
 
 use crate::ledger::Ledger;
 use codes::Code;
@@ -17,20 +17,27 @@ mod calls;
 mod publishing;
 mod tracing;
 
-/// A key in service, with its ledger. Only `finish` makes one.
+/// A key in service: what it was grown from, its root, its next leaf, and its ledger. Its type says the
+/// tree hash `H` and the code `C`. It signs once with each leaf, in the order of their numbers, from
+/// 0 to 2^height - 1. It is neither copied nor cloned. Only `Maker::finish` makes one.
 #[derive(Drop)]
 pub struct Signer<H: TreeHash, C: Code> {
+    /// The seed, the hash key, the masks and the height.
     pub(crate) origin: Origin,
+    /// The node at level 0.
     pub(crate) root: [u8; 16],
-    /// The next leaf to be spent.
+    /// The next leaf to be spent; 2^height where all are spent.
     pub(crate) next: u16,
+    /// The stamp that each leaf was spent on.
     pub(crate) ledger: Ledger,
     pub(crate) hash: PhantomData<H>,
     pub(crate) code: PhantomData<C>,
     pub ghost tall: { (1 ≤ origin.height) × (origin.height ≤ 8) },
     pub ghost within: { next ≤ 2 ^ origin.height },
+    // The root is that of the tree which the origin gives.
     pub ghost rooted: { root ≡ node_at (hash_by H.ChainHash H.TreeHash) (code_of C.Code) origin 0 0 },
     ghost sized: { (length origin.hash_key ≡ 16) × (length origin.masks ≡ masks_size) × (length root ≡ 16) },
+    // No leaf from the next one on has a stamp.
     pub ghost fresh: { (i : ℕ) → next ≤ i → empty_row (slice_index_or ledger.rows i None) ≡ true },
     ghost seeded: { length origin.seed ≡ 16 },
     ghost bytes: { (i : ℕ) → (slice_index origin.seed i < 256)

@@ -1,14 +1,14 @@
 //! Beginning and growing a key.
 
 ghost use Rattle.std.specs.Prelude.{◌≡◌, ℕ, List, [], replicate, Some};
-ghost use Rattle.growth.specs.Grown.{node_at};
-ghost use Rattle.rules.specs.Conditions.{grow_causes};
-ghost use Rattle.histories.specs.Histories.{growing, serving, grow, finish, Lived, Continues};
-ghost use Rattle.rules.specs.Rules.{begin_rule, grow_answer, grow_state, held_rule, finish_state};
-ghost use Rattle.signer.specs.Views.{height_of_plan, making_of, signing_of};
 ghost use Rattle.tree.specs.Meaning.{hash_of, code_of};
 ghost use Rattle.tree.specs.Rows.{work_size};
+ghost use Rattle.growth.specs.Grown.{node_at};
 ghost use Rattle.records.specs.Causes.{Refuses};
+ghost use Rattle.rules.specs.Conditions.{grow_causes};
+ghost use Rattle.rules.specs.Rules.{begin_rule, grow_answer, grow_state, held_rule, finish_state};
+ghost use Rattle.histories.specs.Histories.{growing, serving, grow, finish, Lived, Continues};
+ghost use Rattle.signer.specs.Views.{height_of_plan, making_of, signing_of};
 
 use crate::ledger::Ledger;
 use crate::scratch::Scratch;
@@ -22,7 +22,11 @@ use strings::string_at;
 use tree::rows::{MASKS, WORK};
 
 impl<H: TreeHash, C: Code> Maker<H, C> {
-    /// Begins a key: no leaf is in. String 2a of the masks is the left mask of level a, string 2a + 1 the right one.
+    /// Begins a key of this plan: no leaf is in, and no node is held. Takes a seed of 16 bytes, a hash
+    /// key of 16 bytes, and the bitmasks, 512 bytes: string 2a is the left mask of level a, string
+    /// 2a + 1 the right one. A tree uses the masks of its own levels, the first 32 (height + levels)
+    /// bytes for a code with `levels` levels in a leaf. The seed is secret: with it, the hash key and
+    /// the masks every record of the key can be made. Refuses nothing, and takes no work buffer.
     pub fn begin(plan: Plan, seed: [u8; 16], hash_key: [u8; 16], masks: [u8; MASKS]) -> Maker<H, C>
         ensures state { making_of result ≡ begin_rule
             (record { seed = seed; hash_key = hash_key; masks = masks; height = height_of_plan plan }) }
@@ -45,7 +49,9 @@ impl<H: TreeHash, C: Code> Maker<H, C> {
         }
     }
 
-    /// Adds the next leaf, and answers how many are in. Refuses where all leaves are in.
+    /// Grows the next leaf and adds it to the tree (treehash), and answers how many leaves are in now,
+    /// from 1 to 2^height. Refuses with 2, `Grown`, where all 2^height leaves are in; the maker then
+    /// stays as it was. The work buffer, 4,096 bytes, is all zero after, refused or not.
     pub fn grow(&mut self, work: &mut [u8; WORK]) -> Result<u16, Refusal>
         ensures answer { result ≡ grow_answer (making_of self.old) }
         ensures refuses { Refuses (grow_causes (making_of self.old)) result }
@@ -69,8 +75,10 @@ impl<H: TreeHash, C: Code> Maker<H, C> {
         Ok(self.grown)
     }
 
-    /// The node that is held at a level, with its position: the last node that the leaves fill, where no larger full subtree
-    /// has it.
+    /// The node that is held at a level, as its position, counted from 0, and its 16 bytes: the last
+    /// node of that level that the leaves fill, where no larger full subtree has it. With g leaves in,
+    /// level a holds a node exactly where bit height - a of g is 1. None where no node of that level
+    /// is held, and where the level is greater than the height. The maker is unchanged.
     pub fn held(&self, level: u8) -> Option<(u16, [u8; 16])>
         ensures value { result ≡ held_rule (making_of self.now) level }
         ensures node { (b : ℕ) (s : List ℕ) → result ≡ Some (b, s) →
@@ -79,15 +87,17 @@ impl<H: TreeHash, C: Code> Maker<H, C> {
         if level > self.origin.height {
             return None;
         }
-        let full = self.grown >> (self.origin.height - level);
-        if full % 2 == 0 {
+        let filled = self.grown >> (self.origin.height - level);
+        if filled % 2 == 0 {
             return None;
         }
         let node = string_at(&self.nodes, level as usize);
-        Some((full - 1, node))
+        Some((filled - 1, node))
     }
 
-    /// Grows whatever leaves are lacking, and puts the key into service. The work buffer is zero after.
+    /// Takes the maker, grows the leaves that are lacking, and gives the signer: its root is the node
+    /// at level 0, its next leaf is leaf 0, and its ledger is empty. Refuses nothing. The work buffer,
+    /// 4,096 bytes, is all zero after.
     pub fn finish(self, work: &mut [u8; WORK]) -> Signer<H, C>
         ensures state { signing_of result ≡ finish_state (hash_of H.TreeHash)
             (code_of C.Code) (making_of self) }

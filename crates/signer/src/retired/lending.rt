@@ -13,6 +13,7 @@ impl<H: TreeHash, C: Code> Deref for Retired<H, C> {
 
     ghost deref_gives = { λ retired signer. signer ≡ retired_signer retired };
 
+    /// The signer that was retired, to be read: its `key` and its `trace`.
     fn deref(&self) -> &Signer<H, C> {
         &self.signer
     }

@@ -1,13 +1,13 @@
 //! The calls of a key in service.
 
 ghost use Rattle.std.specs.Prelude.{◌≡◌, ◌^◌, ◌<◌, replicate};
-ghost use Rattle.rules.specs.Conditions.{sign_causes, skip_causes};
-ghost use Rattle.histories.specs.Histories.{serving, retired, sign, skip, retire, HasLived, Continues};
-ghost use Rattle.rules.specs.Rules.{Accepts, release_record, sign_answer, sign_state, sign_output, skip_answer, skip_state};
-ghost use Rattle.signer.specs.Views.{signing_of, signing_of_retired};
 ghost use Rattle.tree.specs.Meaning.{hash_of, code_of};
 ghost use Rattle.tree.specs.Rows.{work_size};
 ghost use Rattle.records.specs.Causes.{Refuses};
+ghost use Rattle.rules.specs.Conditions.{sign_causes, skip_causes};
+ghost use Rattle.rules.specs.Rules.{Accepts, release_record, sign_answer, sign_state, sign_output, skip_answer, skip_state};
+ghost use Rattle.histories.specs.Histories.{serving, retired, sign, skip, retire, HasLived, Continues};
+ghost use Rattle.signer.specs.Views.{signing_of, signing_of_retired};
 
 use crate::scratch::Scratch;
 use crate::shown::Shown;
@@ -19,8 +19,18 @@ use records::{Refusal, release_length, write_release};
 use tree::rows::WORK;
 
 impl<H: TreeHash, C: Code> Signer<H, C> {
-    /// Spends the next leaf on a stamp: writes the release record at the start of the output, and answers its length and
-    /// its leaf number. Refuses where all leaves are spent, and an output that is shorter; then nothing changes.
+    /// Spends the next leaf on a stamp of 16 bytes, and answers the length of the release record and
+    /// its leaf number. The record is written at the start of the output, and the bytes past it stay.
+    /// It has 8 + 16 (count + height) bytes for a code with `count` chains: its length, its kind and
+    /// the leaf number in 8, a string of each hash chain at the height of the stamp's digit, and the
+    /// authentication path, grown again from the seed. The stamp is entered in the leaf's row of the
+    /// ledger, and the next leaf is one higher. Under the signer's key record verify accepts the
+    /// release record for this stamp.
+    ///
+    /// Refuses, in this order: with 3, `Spent`, where all 2^height leaves are spent; with 4, `Output`,
+    /// an output shorter than the record. The signer and all of the output then stay as they were.
+    ///
+    /// The work buffer, 4,096 bytes, is all zero after, refused or not.
     pub fn sign(
         &mut self,
         stamp: &[u8; 16],
@@ -63,8 +73,10 @@ impl<H: TreeHash, C: Code> Signer<H, C> {
         Ok((size, leaf))
     }
 
-    /// Makes `leaf` the next leaf; the rows that are passed over stay empty. Refuses a number below the next leaf or above
-    /// the number of leaves; then nothing changes.
+    /// Makes `leaf` the next leaf, and answers it. The leaves that are passed over never sign, and
+    /// their rows of the ledger stay empty; after a skip to 2^height no leaf is left. Refuses with 5,
+    /// `Skip`, a number below the next leaf or above 2^height; the signer then stays as it was. Takes
+    /// no work buffer.
     pub fn skip(&mut self, leaf: u16) -> Result<u16, Refusal>
         ensures answer { result ≡ skip_answer (signing_of self.old) leaf }
         ensures refuses { Refuses (skip_causes (signing_of self.old) leaf) result }
@@ -79,7 +91,8 @@ impl<H: TreeHash, C: Code> Signer<H, C> {
         Ok(leaf)
     }
 
-    /// Takes the key out of service.
+    /// Takes the signer out of service, and gives a retired one with the same key, next leaf and
+    /// ledger. Refuses nothing, and takes no work buffer.
     pub fn retire(self) -> Retired<H, C>
         ensures state { signing_of_retired result ≡ signing_of self }
         ensures lived { Continues (hash_of H.TreeHash) (code_of C.Code)

@@ -1,13 +1,13 @@
 //! The key record of a signer, in service and out of it.
 
 ghost use Rattle.std.specs.Prelude.{◌≡◌, Ok};
-ghost use Rattle.histories.specs.Histories.{State, IsSigner, key, Continues};
+ghost use Rattle.tree.specs.Meaning.{hash_of, code_of};
 ghost use Rattle.records.specs.Causes.{Refuses};
 ghost use Rattle.records.specs.Rules.{open_rule};
 ghost use Rattle.rules.specs.Conditions.{key_causes};
 ghost use Rattle.rules.specs.Rules.{key_record, own_key, key_answer, key_output};
+ghost use Rattle.histories.specs.Histories.{State, IsSigner, key, Continues};
 ghost use Rattle.signer.specs.Views.{signing_of};
-ghost use Rattle.tree.specs.Meaning.{hash_of, code_of};
 
 use crate::Signer;
 use codes::Code;
@@ -16,7 +16,12 @@ use records::{Refusal, key_length, layout};
 use tree::Parameters;
 
 impl<H: TreeHash, C: Code> Signer<H, C> {
-    /// Writes the key record at the start of the output, and answers its length. Refuses an output that is shorter; it stays.
+    /// Writes the key record at the start of the output, and answers its length: 42 + 32 (height +
+    /// levels) bytes for a code with `levels` levels in a leaf. It has the numbers of the hash and the
+    /// code, the height, the hash key, the masks of the tree's levels and the root, and no secret; open,
+    /// for this hash and code, refuses nothing on it. The bytes of the output past it stay, and the
+    /// signer is unchanged. Refuses with 4, `Output`, an output shorter than the record; all of the
+    /// output then stays as it was. Takes no work buffer.
     pub fn key(&self, out: &mut [u8]) -> Result<usize, Refusal>
         ensures answer { result ≡ key_answer (code_of C.Code) (signing_of self.now) out.old }
         ensures refuses { Refuses (key_causes (code_of C.Code) (signing_of self.now) out.old) result }

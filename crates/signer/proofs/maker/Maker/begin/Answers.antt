@@ -1,5 +1,6 @@
 use Rattle.std.proofs.Common.{◌≡◌, ℕ, ◌<◌, [], get_or, replicate, ap, rules}
 use Rattle.growth.proofs.Trees.{holds-none}
+use Rattle.growth.specs.Grown.{nodes_size}
 use Rattle.growth.specs.declared.origin.Origin.{Origin}
 use Rattle.histories.specs.Histories.{growing, Lived}
 use Rattle.rules.specs.Rules.{begin_rule}
@@ -17,7 +18,7 @@ module _ (g : given.Over) (c : After-height-height g) where
   given_of = record { seed = c.args.seed; hash_key = c.args.hash_key; masks = c.args.masks; height = height_of_plan c.args.plan }
 
   abbrev made : Making
-  made = record { origin = record { seed = c.args.seed; hash_key = c.args.hash_key; masks = c.args.masks; height = c.height-height.result }; grown = 0; nodes = replicate 144 0 }
+  made = record { origin = record { seed = c.args.seed; hash_key = c.args.hash_key; masks = c.args.masks; height = c.height-height.result }; grown = 0; nodes = replicate nodes_size 0 }
 
   begun : made ≡ begin_rule given_of
   begun = ap (λ h. begin_rule (record { seed = c.args.seed; hash_key = c.args.hash_key; masks = c.args.masks; height = h })) c.height-height.ensures

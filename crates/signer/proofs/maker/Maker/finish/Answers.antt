@@ -3,6 +3,7 @@ use Rattle.std.proofs.lemmas.Nat.{one_shl}
 use Rattle.growth.specs.Grown.{node_at, Holds}
 use Rattle.growth.specs.declared.origin.Origin.{Origin}
 use Rattle.rules.specs.Rules.{finish_state}
+use Rattle.rules.specs.States.{ledger_rows}
 use Rattle.histories.proofs.Continuing.{finish-continues, lives-on}
 use Rattle.growth.proofs.Trees.{holds-root}
 use Rattle.strings.specs.Strings.{string_at}
@@ -50,7 +51,7 @@ module _ (g : given.Over) (c : After-string_at-root g) where
   root_is = c.string_at-root.ensures ∙ holds-root hash code o c.loop-leaf.nodes (subst (λ n. Holds hash code o n c.loop-leaf.nodes) all (c.loop-leaf.invariant.3 c.args.self.holds))
 
   -- and the signer that is made of it, with an empty ledger, is that of the rule
-  made : (rows : List (Option (List ℕ))) → rows ≡ replicate 256 None → record { origin = o; root = c.string_at-root.result; next = 0; rows = rows } ≡ finish_state hash code (making_of c.args.self)
+  made : (rows : List (Option (List ℕ))) → rows ≡ replicate ledger_rows None → record { origin = o; root = c.string_at-root.result; next = 0; rows = rows } ≡ finish_state hash code (making_of c.args.self)
   made rows none =
       let last = leaves_all hash code o (2 ^ o.height) c.loop-leaf.leaf c.args.self.grown c.loop-leaf.nodes c.args.self.nodes all c.loop-leaf.invariant.2 in
       λ i. record { origin = o; root = (c.string_at-root.ensures ∙ ap (λ l. string_at l 0) last) i; next = 0; rows = none i }
@@ -75,7 +76,7 @@ invariant_of-result g c =
       within = search rules;
       rooted = root_is g at;
       sized = search rules;
-      fresh = λ i le. empty-fresh _ 256 i c.empty.ensures;
+      fresh = λ i le. empty-fresh _ ledger_rows i c.empty.ensures;
       seeded = search rules;
       bytes = c.args.self.bytes;
       lived = lives-on (hash g at) (code g at) _ _ _ (finish-continues (hash g at) (code g at) (making_of c.args.self) _ state) c.args.self.lived;

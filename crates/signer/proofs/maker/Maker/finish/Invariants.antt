@@ -1,5 +1,5 @@
 use Rattle.std.proofs.Common.{◌≡◌, ◌-◌, ◌^◌, ◌≤◌, length}
-use Rattle.growth.specs.Grown.{Holds}
+use Rattle.growth.specs.Grown.{nodes_size, Holds}
 use Rattle.rules.specs.Rules.{leaves_more}
 use Rattle.tree.specs.Meaning.{hash_by, code_of}
 use Rattle.signer.proofs.maker.Maker.finish.Given as goal
@@ -11,6 +11,6 @@ invariant-loop-leaf g l =
     let code = code_of g.C.Code in
     let all = 2 ^ l.origin.height in
     (l.leaf ≤ all)
-    × (length l.nodes ≡ 144)
+    × (length l.nodes ≡ nodes_size)
     × (leaves_more hash code (all - l.leaf) (record { origin = l.origin; grown = l.leaf; nodes = l.nodes }) ≡ leaves_more hash code (all - l.grown) (record { origin = l.origin; grown = l.grown; nodes = l.initial.nodes }))
     × (Holds hash code l.origin l.grown l.initial.nodes → Holds hash code l.origin l.leaf l.nodes)
