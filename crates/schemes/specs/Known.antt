@@ -1,6 +1,6 @@
 -- The hashes that are made of SHA-256 and AES-128, as values.
-use Rattle.aes128.specs.Cipher.{aes_step, aes_pair}
 use Rattle.sha256.specs.TreeHash.{sha_step, sha_pair}
+use Rattle.aes128.specs.Cipher.{aes_step, aes_pair}
 use Rattle.tree.specs.Meaning.{Hash}
 
 -- hash 1, made of SHA-256

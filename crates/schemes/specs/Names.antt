@@ -1,14 +1,14 @@
 -- What the names of hashes and codes mean, and their numbers.
 use Rattle.std.specs.Prelude.{◌≢◌, ◌⊎◌, ℕ, if◌then◌else◌, Ok, Err, Result, ◌==◌}
+use Rattle.tree.specs.Known.{practice, lamport_diffie_code, winternitz2_code, winternitz4_code}
 use Rattle.tree.specs.Meaning.{Hash, Code}
 use Rattle.records.specs.Rules.{after}
 use Rattle.schemes.specs.Known.{sha, aes}
-use Rattle.tree.specs.Known.{practice, lamport_diffie_code, winternitz2_code, winternitz4_code}
-use Rattle.schemes.specs.declared.names.HashName.{HashName}
-use Rattle.schemes.specs.declared.names.HashName.TheVariants.{Sha256, Aes128, Practice}
 use Rattle.schemes.specs.declared.names.CodeName.{CodeName}
 use Rattle.schemes.specs.declared.names.CodeName.TheVariants.{LamportDiffie, Winternitz2}
 use Rattle.schemes.specs.declared.names.CodeName.TheVariants.{Winternitz4}
+use Rattle.schemes.specs.declared.names.HashName.{HashName}
+use Rattle.schemes.specs.declared.names.HashName.TheVariants.{Sha256, Aes128, Practice}
 use Rattle.schemes.specs.declared.scheme.Scheme.{Scheme}
 use Rattle.schemes.specs.declared.unknown.UnknownScheme.{UnknownScheme}
 

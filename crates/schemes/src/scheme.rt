@@ -1,8 +1,8 @@
 //! A hash and a code, and work that is done with any of them.
 
 ghost use Rattle.std.specs.Prelude.{◌≡◌, ◌↔◌, IsErr};
-ghost use Rattle.schemes.specs.Names.{hash_named, code_named, scheme_numbered, UnknownNumbers};
 ghost use Rattle.tree.specs.Meaning.{Hash, Code, hash_of, code_of};
+ghost use Rattle.schemes.specs.Names.{hash_named, code_named, scheme_numbered, UnknownNumbers};
 
 use crate::{CodeName, HashName, UnknownScheme};
 use aes128::Aes128Hash;
