@@ -17,6 +17,17 @@ pub enum HashName {
     Practice,
 }
 
+/// The codes that a key record can name.
+#[derive(Clone, Copy, PartialEq, Eq, Debug)]
+pub enum CodeName {
+    /// Code 1, Lamport-Diffie: 256 chains of 1 step.
+    LamportDiffie,
+    /// Code 2, Winternitz with w = 2: 69 chains of 3 steps.
+    Winternitz2,
+    /// Code 3, Winternitz with w = 4: 35 chains of 15 steps.
+    Winternitz4,
+}
+
 // The hash with this number, 1 to 3; the error for any other. Rule: `hash_name`.
 impl TryFrom<u8> for HashName {
     ghost use Rattle.std.specs.Prelude.{◌≡◌};
@@ -34,17 +45,6 @@ impl TryFrom<u8> for HashName {
             _ => Err(UnknownScheme),
         }
     }
-}
-
-/// The codes that a key record can name.
-#[derive(Clone, Copy, PartialEq, Eq, Debug)]
-pub enum CodeName {
-    /// Code 1, Lamport-Diffie: 256 chains of 1 step.
-    LamportDiffie,
-    /// Code 2, Winternitz with w = 2: 69 chains of 3 steps.
-    Winternitz2,
-    /// Code 3, Winternitz with w = 4: 35 chains of 15 steps.
-    Winternitz4,
 }
 
 // The code with this number, 1 to 3; the error for any other. Rule: `code_name`.

@@ -47,8 +47,8 @@ pub struct Scheme {
 }
 
 impl Scheme {
-    /// The hash and the code with these numbers, as bytes 6 and 7 of a key record have them. Gives the error exactly where no hash
-    /// has the first number, or no code the second. Rule: `scheme_numbered`.
+    /// The hash and the code with these numbers, as bytes 6 and 7 of a key record have them. Gives the error exactly where no
+    /// hash has the first number, or no code the second. Rule: `scheme_numbered`.
     pub fn numbered(hash: u8, code: u8) -> Result<Scheme, UnknownScheme>
         ensures value { result ≡ scheme_numbered hash code }
         ensures unknown { IsErr result ↔ UnknownNumbers hash code }
