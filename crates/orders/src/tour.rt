@@ -81,8 +81,8 @@ impl<'a> Orders<'a> {
     ghost use Rattle.orders.specs.Outcomes.{answers_to};
     ghost use Rattle.orders.specs.Views.{answer_under};
 
-    // The outcome of the first order in the rest, a stamp of 16 bytes and a release record, and the bytes of the others. A stamp
-    // that is cut short is refused with 6, `Length`, and no bytes are left.
+    // The outcome of the first order in the rest, a stamp of 16 bytes and a release record, and the bytes of the others. A
+    // stamp that is cut short is refused with 6, `Length`, and no bytes are left.
     fn first(&self) -> (Result<u16, Refusal>, &'a [u8])
         requires { 0 < length self.now.rest.now }
         ensures first { answers_to (answer_under self.now.scheme self.now.key) self.now.rest.now ≡
