@@ -1,14 +1,18 @@
-//! The calls on whole keys. Hash and code go by their numbers; where one is not known, the reply says so and no more. Nothing of
-//! a key stays between two calls: each lives a key's life from its source on.
+//! The calls on whole keys. Hash and code go by their numbers; where one is not known, the reply says so and no more, and
+//! outputs stay. Nothing of a key stays between two calls: each lives a key's life from its source on. What verifier or signer
+//! refuses on the way ends the call, and the reply has its number.
 
 ghost use Rattle.std.specs.Prelude.{◌≡◌, Err};
-ghost use Rattle.bench_calls.specs.Lives.{Numbered, HoldsOf, numbered, numbered_output, one_reply, two_reply, three_reply, verified, grown, grown_node, keyed, keyed_output, signed, signed_output, traced, traced_report};
 ghost use Rattle.schemes.specs.Names.{scheme_numbered};
+ghost use Rattle.bench_calls.specs.Lives.{Numbered, HoldsOf, numbered, numbered_output, one_reply, two_reply, three_reply};
+ghost use Rattle.bench_calls.specs.Lives.{verified, grown, grown_node, keyed, keyed_output};
+ghost use Rattle.bench_calls.specs.Lives.{signed, signed_output, traced, traced_report};
 
 use crate::failure::Failure;
 use crate::lives::{Grow, Key, Sign, Trace, Verify};
 use crate::reply::Reply;
 use crate::source::Source;
+use compare::REPORT;
 use records::Refusal;
 use schemes::{Scheme, Task};
 
@@ -25,7 +29,8 @@ fn run_numbered<A, T: Task<Output = Result<A, Refusal>>>(
     Ok(Scheme::numbered(hash, code)?.run(task)?)
 }
 
-/// Opens a key record, and verifies a release record under it: the leaf.
+/// Opens a key record, and verifies a release record under it for a stamp of 16 bytes: the leaf. Refuses the key record with 6
+/// to 10 as `open`, and then the release record with 6, 7, 10, 11 and 12 as `verify`. Rule: `verified`.
 #[unsafe(no_mangle)]
 pub extern "C" fn verify_release(
     hash: u8,
@@ -45,7 +50,9 @@ pub extern "C" fn verify_release(
     Reply::from(run_numbered(hash, code, &mut task))
 }
 
-/// Begins a key and grows leaves: whether a node is held at the level, and its position; `node` is then its string.
+/// Begins a key and calls grow as often as `leaves` says: 1 or 0, whether a node is held at the level, and its position; `node`
+/// is then its string of 16 bytes, and else stays. Refuses with 1, `Plan`, a height outside 1 to 8. Rules: `grown` and
+/// `grown_node`.
 #[unsafe(no_mangle)]
 pub extern "C" fn grow_leaves(
     hash: u8,
@@ -69,7 +76,9 @@ pub extern "C" fn grow_leaves(
     Reply::from(run_numbered(hash, code, &mut task))
 }
 
-/// Begins and finishes a key, and writes its key record `turns` times and once more: the record's length.
+/// Begins and finishes a key, and writes its key record at the start of `out`, `turns` times and once more: the record's
+/// length. Refuses with 1, `Plan`, a height outside 1 to 8, and with 4, `Output`, an output that is shorter than the record; it
+/// then stays. Rules: `keyed` and `keyed_output`.
 #[unsafe(no_mangle)]
 pub extern "C" fn write_key(
     hash: u8,
@@ -87,7 +96,10 @@ pub extern "C" fn write_key(
     Reply::from(run_numbered(hash, code, &mut task))
 }
 
-/// Begins and finishes a key, skips to a leaf where it can, and signs: the record's length, and the leaf.
+/// Begins and finishes a key, skips to a leaf where it can, and signs the stamp of 16 bytes: the record's length, and the leaf;
+/// the release record is at the start of `out`. Refuses with 1, `Plan`, a height outside 1 to 8; with 3, `Spent`, where the
+/// skip left no leaf; with 4, `Output`, an output that is shorter than the record. `out` then stays. Rules: `signed` and
+/// `signed_output`.
 #[unsafe(no_mangle)]
 pub extern "C" fn sign_release(
     hash: u8,
@@ -112,7 +124,9 @@ pub extern "C" fn sign_release(
 }
 
 /// Begins and finishes a key, skips to a leaf where it can, signs the stamp `spent` where it can, retires the key, and traces a
-/// record for `stamp`: the verdict and its two numbers.
+/// record for `stamp`, each stamp of 16 bytes: the verdict and its two numbers; `report`, of 64 bytes, shows it. Refuses with
+/// 1, `Plan`, a height outside 1 to 8, and then the record with 6, 7, 10, 11 and 12 as trace; `report` then stays. Rules:
+/// `traced` and `traced_report`.
 #[unsafe(no_mangle)]
 pub extern "C" fn trace_release(
     hash: u8,
@@ -122,7 +136,7 @@ pub extern "C" fn trace_release(
     spent: &[u8; 16],
     stamp: &[u8; 16],
     record: &[u8],
-    report: &mut [u8; 64],
+    report: &mut [u8; REPORT],
 ) -> Reply
     ensures answer { result ≡ three_reply (numbered hash code
         (λ h c. traced h c source.now leaf spent.now stamp.now «record».now)) }

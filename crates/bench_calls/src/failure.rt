@@ -6,7 +6,7 @@ use schemes::UnknownScheme;
 /// Why a call has no answer.
 #[derive(Clone, Copy)]
 pub enum Failure {
-    /// A call of verifier or signer refuses.
+    /// Verifier or signer refuses with this.
     Refused(Refusal),
     /// No hash has the number that was given, or no code.
     Unknown,

@@ -1,25 +1,31 @@
 //! Parts of a key's life, from its source on, for any hash and code.
 
 ghost use Rattle.std.specs.Prelude.{◌≡◌};
-ghost use Rattle.bench_calls.specs.Lives.{begun, grows, grown, grown_node, finished, keyed, keyed_output, serving, signed, signed_output, traced, traced_report, verified};
-ghost use Rattle.schemes.specs.Tasks.{Wrote};
-ghost use Rattle.signer.specs.Views.{making_of, signing_of};
 ghost use Rattle.tree.specs.Meaning.{hash_of, code_of};
 ghost use Rattle.records.specs.Rules.{seen};
+ghost use Rattle.signer.specs.Views.{making_of, signing_of};
+ghost use Rattle.schemes.specs.Tasks.{Wrote};
+ghost use Rattle.bench_calls.specs.Lives.{begun, grows, finished, serving, verified, grown, grown_node, keyed, keyed_output};
+ghost use Rattle.bench_calls.specs.Lives.{signed, signed_output, traced, traced_report};
 
 use crate::source::Source;
 use codes::Code;
+use compare::REPORT;
 use hashes::TreeHash;
 use records::{LONGEST_RELEASE, Refusal};
 use schemes::Task;
 use signer::{Maker, Plan, Signer};
+use tree::rows::WORK;
 use verifier::{open, verify};
 
-/// Opens a key record, and verifies a release record under it.
+/// Opens a key record, and verifies a release record under it: the leaf. Refuses as `open`, and then as `verify`.
 #[derive(Drop)]
 pub struct Verify<'a> {
+    /// The key record.
     pub key: &'a [u8],
+    /// The stamp that the release record is to be good for.
     pub stamp: &'a [u8; 16],
+    /// The release record.
     pub release: &'a [u8],
 }
 
@@ -36,7 +42,7 @@ impl Task for Verify<'_> {
     }
 }
 
-// Plans and begins a key.
+// Plans and begins a key. Refuses with 1, `Plan`, a height outside 1 to 8.
 fn begin<H: TreeHash, C: Code>(source: &Source) -> Result<Maker<H, C>, Refusal>
     ensures { seen making_of result ≡ begun source.now }
 {
@@ -44,23 +50,27 @@ fn begin<H: TreeHash, C: Code>(source: &Source) -> Result<Maker<H, C>, Refusal>
     Ok(Maker::begin(plan, source.seed, source.hash_key, source.masks))
 }
 
-// Calls grow as often as `leaves` says.
+// Calls grow as often as `leaves` says; where all leaves are in, it refuses, and nothing changes.
 fn grow_on<H: TreeHash, C: Code>(maker: &mut Maker<H, C>, leaves: u16)
     ensures { making_of maker.new ≡ grows (hash_of H.TreeHash) (code_of C.Code)
         leaves (making_of maker.old) }
 {
-    let mut work = [0; 4096];
+    let mut work = [0; WORK];
     for _ in 0..leaves {
         let _ = maker.grow(&mut work);
     }
 }
 
-/// Begins a key and grows `leaves` leaves; says whether a node is held at the level, with its position, and writes it.
+/// Begins a key and grows leaves: 1 or 0, whether a node is held at the level, and its position. Refuses as `begin`.
 #[derive(Drop)]
 pub struct Grow<'a, 'o> {
+    /// What the key is begun with.
     pub source: &'a Source,
+    /// How often grow is called.
     pub leaves: u16,
+    /// The level that is asked for.
     pub level: u8,
+    /// The node is written here; it stays where none is held.
     pub node: &'o mut [u8; 16],
 }
 
@@ -69,7 +79,9 @@ impl Task for Grow<'_, '_> {
 
     ghost gives = { λ before h c result after.
         (result ≡ grown h c before.source.now before.leaves before.level)
-        × Wrote before.node (grown_node h c before.source.now before.leaves before.level before.node.now) after.node };
+        × Wrote before.node
+        (grown_node h c before.source.now before.leaves before.level before.node.now)
+        after.node };
 
     fn run<H: TreeHash, C: Code>(&mut self) -> Result<(usize, u16), Refusal> {
         let mut maker = begin::<H, C>(self.source)?;
@@ -85,10 +97,10 @@ impl Task for Grow<'_, '_> {
     }
 }
 
-// Begins and finishes a key.
+// Begins and finishes a key. Refuses as `begin`.
 fn finish<H: TreeHash, C: Code>(
     source: &Source,
-    work: &mut [u8; 4096],
+    work: &mut [u8; WORK],
 ) -> Result<Signer<H, C>, Refusal>
     ensures { seen signing_of result ≡ finished (hash_of H.TreeHash)
         (code_of C.Code) source.now }
@@ -97,11 +109,15 @@ fn finish<H: TreeHash, C: Code>(
     Ok(maker.finish(work))
 }
 
-/// Begins and finishes a key, and writes its key record `turns` times and once more.
+/// Begins and finishes a key, and writes its key record: the record's length. Refuses as `begin`, and then with 4, `Output`, an
+/// output that is shorter than the record.
 #[derive(Drop)]
 pub struct Key<'a, 'o> {
+    /// What the key is begun with.
     pub source: &'a Source,
+    /// How often the record is written before it is written once more.
     pub turns: u32,
+    /// The record is written at the start; all else stays, and the whole where a call refuses.
     pub out: &'o mut [u8],
 }
 
@@ -110,10 +126,12 @@ impl Task for Key<'_, '_> {
 
     ghost gives = { λ before h c result after.
         (result ≡ keyed h c before.source.now before.turns before.out.now)
-        × Wrote before.out (keyed_output h c before.source.now before.turns before.out.now) after.out };
+        × Wrote before.out
+        (keyed_output h c before.source.now before.turns before.out.now)
+        after.out };
 
     fn run<H: TreeHash, C: Code>(&mut self) -> Result<usize, Refusal> {
-        let mut work = [0; 4096];
+        let mut work = [0; WORK];
         let signer = finish::<H, C>(self.source, &mut work)?;
         for _ in 0..self.turns {
             let _ = signer.key(self.out);
@@ -122,11 +140,11 @@ impl Task for Key<'_, '_> {
     }
 }
 
-// Begins and finishes a key, and skips to a leaf.
+// Begins and finishes a key, and skips to a leaf; where skip refuses, the next leaf stays. Refuses as `begin`.
 fn serve<H: TreeHash, C: Code>(
     source: &Source,
     leaf: u16,
-    work: &mut [u8; 4096],
+    work: &mut [u8; WORK],
 ) -> Result<Signer<H, C>, Refusal>
     ensures { seen signing_of result ≡ serving (hash_of H.TreeHash) (code_of C.Code)
         source.now leaf }
@@ -136,12 +154,17 @@ fn serve<H: TreeHash, C: Code>(
     Ok(signer)
 }
 
-/// Begins and finishes a key, skips to a leaf, and signs.
+/// Begins and finishes a key, skips to a leaf where it can, and signs: the record's length, and the leaf. Refuses as `begin`;
+/// then with 3, `Spent`, where the skip left no leaf, and with 4, `Output`, an output that is shorter than the record.
 #[derive(Drop)]
 pub struct Sign<'a, 'o> {
+    /// What the key is begun with.
     pub source: &'a Source,
+    /// The leaf to skip to.
     pub leaf: u16,
+    /// The stamp that is signed.
     pub stamp: &'a [u8; 16],
+    /// The release record is written at the start; all else stays, and the whole where a call refuses.
     pub out: &'o mut [u8],
 }
 
@@ -150,24 +173,33 @@ impl Task for Sign<'_, '_> {
 
     ghost gives = { λ before h c result after.
         (result ≡ signed h c before.source.now before.leaf before.out.now)
-        × Wrote before.out (signed_output h c before.source.now before.leaf before.stamp.now before.out.now) after.out };
+        × Wrote before.out
+        (signed_output h c before.source.now before.leaf before.stamp.now before.out.now)
+        after.out };
 
     fn run<H: TreeHash, C: Code>(&mut self) -> Result<(usize, u16), Refusal> {
-        let mut work = [0; 4096];
+        let mut work = [0; WORK];
         let mut signer = serve::<H, C>(self.source, self.leaf, &mut work)?;
         signer.sign(self.stamp, self.out, &mut work)
     }
 }
 
-/// Begins and finishes a key, skips to a leaf, signs the stamp `spent` there, retires the key, and traces a record for `stamp`.
+/// Begins and finishes a key, skips to a leaf where it can, signs the stamp `spent` there where it can, retires the key, and
+/// traces a record for `stamp`: the verdict and its two numbers. Refuses as `begin`, and then as trace.
 #[derive(Drop)]
 pub struct Trace<'a, 'o> {
+    /// What the key is begun with.
     pub source: &'a Source,
+    /// The leaf to skip to.
     pub leaf: u16,
+    /// The stamp that is signed.
     pub spent: &'a [u8; 16],
+    /// The stamp that the record is traced for.
     pub stamp: &'a [u8; 16],
+    /// The release record that is traced.
     pub release: &'a [u8],
-    pub report: &'o mut [u8; 64],
+    /// The report is written here; it stays where a call refuses.
+    pub report: &'o mut [u8; REPORT],
 }
 
 impl Task for Trace<'_, '_> {
@@ -175,13 +207,15 @@ impl Task for Trace<'_, '_> {
 
     ghost gives = { λ before h c result after.
         (result ≡
-        traced h c before.source.now before.leaf before.spent.now before.stamp.now before.release.now)
+        traced h c before.source.now before.leaf before.spent.now before.stamp.now
+        before.release.now)
         × Wrote before.report
-        (traced_report h c before.source.now before.leaf before.spent.now before.stamp.now before.release.now before.report.now)
+        (traced_report h c before.source.now before.leaf before.spent.now before.stamp.now
+        before.release.now before.report.now)
         after.report };
 
     fn run<H: TreeHash, C: Code>(&mut self) -> Result<(u8, u16, u16), Refusal> {
-        let mut work = [0; 4096];
+        let mut work = [0; WORK];
         let mut signer = serve::<H, C>(self.source, self.leaf, &mut work)?;
         let mut out = [0; LONGEST_RELEASE];
         let _ = signer.sign(self.spent, &mut out, &mut work);

@@ -4,15 +4,20 @@ ghost use Rattle.std.specs.Prelude.{◌≡◌, ℕ};
 
 use crate::failure::Failure;
 
-/// The numbers of an answer; or the number of a refusal; or that no hash has the number that was given, or no code. All else is 0 and
-/// false then.
+/// The numbers of an answer; or the number of a refusal; or that no hash has the number that was given, or no code. All else is
+/// 0 and false then. A struct of C, its fields in this order. Rule: `reply_of`.
 #[repr(C)]
 #[derive(Clone, Copy)]
 pub struct Reply {
+    /// The first number of an answer.
     pub first: usize,
+    /// The second, 0 where an answer has one number.
     pub second: u16,
+    /// The third, 0 where an answer has two.
     pub third: u16,
+    /// The number of a refusal, 1 to 12; 0 where there is none.
     pub refusal: u8,
+    /// Whether no hash or no code has the number that was given.
     pub unknown_scheme: bool,
 }
 
@@ -25,8 +30,9 @@ const NOTHING: Reply = Reply {
     unknown_scheme: false,
 };
 
-/// An answer of up to three numbers.
+/// An answer of one to three numbers.
 pub trait Numbers {
+    /// The numbers, in clauses.
     ghost numbers: { Self → ℕ × ℕ × ℕ };
 
     /// The numbers, zeros after them.

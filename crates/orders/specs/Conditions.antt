@@ -1,20 +1,18 @@
 -- What a key record and an order are refused for: each condition, and both lists in their order.
-use Rattle.records.specs.declared.kind.RecordKind.TheVariants as kind
 use Rattle.std.specs.Prelude.{◌≡◌, ℕ, ◌<◌, List, [], ◌∷◌, ◌++◌}
 use Rattle.std.specs.Prelude.{length, take, drop, IsErr, Ok, Result}
 use Rattle.tree.specs.Meaning.{Hash, Code}
 use Rattle.records.specs.Causes.{Cause, cause, Refuses}
-use Rattle.records.specs.Conditions.{WrongHeight, WrongKeyLength}
-use Rattle.verifier.specs.Conditions.{Opening}
-use Rattle.records.specs.Conditions.{header_causes}
-use Rattle.verifier.specs.Conditions.{verify_causes}
+use Rattle.records.specs.Conditions.{WrongHeight, WrongKeyLength, header_causes}
 use Rattle.records.specs.Keys.{Key}
 use Rattle.records.specs.Records.{hash_number_of, code_number_of}
 use Rattle.records.specs.Rules.{open_rule}
+use Rattle.records.specs.declared.kind.RecordKind.TheVariants as kind
 use Rattle.records.specs.declared.refusal.Refusal.{Refusal}
+use Rattle.verifier.specs.Conditions.{Opening, verify_causes}
 use Rattle.schemes.specs.Names.{hash_named, code_named, UnknownNumbers}
-use Rattle.schemes.specs.declared.names.HashName.{HashName}
 use Rattle.schemes.specs.declared.names.CodeName.{CodeName}
+use Rattle.schemes.specs.declared.names.HashName.{HashName}
 use Rattle.orders.specs.Outcomes.{first_record, after_record}
 use Rattle.orders.specs.Reports.{Reported}
 

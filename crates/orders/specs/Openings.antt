@@ -2,9 +2,9 @@
 use Rattle.std.specs.Prelude.{◌≡◌, Ok, Err, Result}
 use Rattle.tree.specs.Meaning.{Hash, Code}
 use Rattle.records.specs.Keys.{Key}
+use Rattle.records.specs.declared.refusal.Refusal.{Refusal}
 use Rattle.verifier.specs.Views.{key_of}
 use Rattle.verifier.specs.declared.key.OpenedKey.{OpenedKey}
-use Rattle.records.specs.declared.refusal.Refusal.{Refusal}
 use Rattle.orders.specs.declared.key.KeySummary.{KeySummary}
 
 -- the key that open answers, and its numbers and height; or its refusal

@@ -1,13 +1,13 @@
 -- What is reported of a key record and the orders that follow it.
-use Rattle.records.specs.declared.kind.RecordKind.TheVariants as kind
 use Rattle.std.specs.Prelude.{◌≡◌, ℕ, List, [], Ok, Err, Result}
 use Rattle.tree.specs.Meaning.{Hash, Code}
 use Rattle.records.specs.Keys.{Key}
 use Rattle.records.specs.Records.{hash_number_of, code_number_of}
 use Rattle.records.specs.Rules.{header_rule, open_rule}
-use Rattle.verifier.specs.Rules.{verify_rule}
+use Rattle.records.specs.declared.kind.RecordKind.TheVariants as kind
 use Rattle.records.specs.declared.refusal.Refusal.{Refusal}
 use Rattle.records.specs.declared.refusal.Refusal.TheVariants.{Parameters}
+use Rattle.verifier.specs.Rules.{verify_rule}
 use Rattle.schemes.specs.Names.{hash_named, code_named, scheme_numbered}
 use Rattle.schemes.specs.declared.scheme.Scheme.{Scheme}
 use Rattle.schemes.specs.declared.unknown.UnknownScheme.{UnknownScheme}
@@ -19,7 +19,7 @@ pub record Reported : Type 0 where
   pub key : Result KeySummary Refusal
   pub orders : List (Result ℕ Refusal)
 
--- the key refused, and no order looked at
+-- the key record refused, and no order looked at
 abbrev pub Refused : Refusal → Reported → Type 0
 Refused e report = (report.key ≡ Err e) × (report.orders ≡ [])
 
@@ -49,7 +49,8 @@ CheckedBy (Err e) key orders report = Unknown (header_rule kind.Key key) report
 abbrev pub Reports : List ℕ → Reported → Type 0
 Reports input report =
     let key = first_record input in
-    CheckedBy (scheme_numbered (hash_number_of key) (code_number_of key)) key (after_record input) report
+    let scheme = scheme_numbered (hash_number_of key) (code_number_of key) in
+    CheckedBy scheme key (after_record input) report
 
 -- as much of an input as is read, in bytes
 abbrev pub most_read : ℕ

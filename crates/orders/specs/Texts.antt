@@ -8,9 +8,13 @@ use Rattle.orders.specs.Reports.{Reported}
 use Rattle.orders.specs.declared.key.KeySummary.{KeySummary}
 use Rattle.orders.specs.declared.order.Order.{Order}
 
+-- LF, in ASCII
+abbrev pub line_feed : ℕ
+line_feed = 10
+
 -- a line is ended by LF
 abbrev pub line : List ℕ → List ℕ
-line text = text ++ 10 ∷ []
+line text = text ++ line_feed ∷ []
 
 -- ` refused N`, of a key or an order
 abbrev pub refused_text : Refusal → List ℕ
@@ -45,5 +49,6 @@ numbered n (outcome ∷ outcomes) =
 abbrev pub order_lines : List Order → List ℕ
 order_lines orders = flat_map (λ order. line (order_text order)) orders
 
+-- the lines of a report: the key's, and then those of the orders
 abbrev pub report_text : Reported → List ℕ
 report_text report = line (key_text report.key) ++ order_lines (numbered 1 report.orders)

@@ -3,15 +3,15 @@
 ghost use Rattle.std.specs.Prelude.{◌≡◌, ◌≢◌, ℕ, ◌<◌, List, length, take, drop, IfOk, IfErr, IfSome, OnOk, Some, Err};
 ghost use Rattle.std.specs.Io.KnownBytes.{Consumes};
 ghost use Rattle.std.specs.IoError.{error_kind};
+ghost use Rattle.records.specs.Rules.{header_rule};
+ghost use Rattle.records.specs.declared.kind.RecordKind.TheVariants as kind;
 ghost use Rattle.orders.specs.Conditions.{RefusesByLists};
 ghost use Rattle.orders.specs.Reading.{Stopped, ReadUpTo};
 ghost use Rattle.orders.specs.Reports.{Reported, CheckedBy, Unknown, Reports, most_read};
 ghost use Rattle.orders.specs.Views.{reported};
-ghost use Rattle.records.specs.Rules.{header_rule};
-ghost use Rattle.records.specs.declared.kind.RecordKind.TheVariants as kind;
 
 use crate::reading::fill;
-use crate::records::split_record;
+use crate::splitting::split_record;
 use crate::{KeySummary, LIMIT, Report, Source, Tour};
 use codes::Code;
 use hashes::TreeHash;
@@ -62,7 +62,8 @@ fn check_by<'a>(scheme: Scheme, key: &'a [u8], orders: &'a [u8]) -> Report<'a>
     }
 }
 
-// The report of a key record that names a hash or code that is not known.
+// The report of a key record that names a hash or code that is not known: refused with 8, `Parameters`, unless its header is
+// refused first.
 fn unknown(key: &[u8]) -> Report<'_>
     ensures { Unknown (header_rule kind.Key key.now) (reported result) }
 {
@@ -72,8 +73,10 @@ fn unknown(key: &[u8]) -> Report<'_>
     }
 }
 
-/// The report of a key record and the orders that follow it, by the hash and code that the key record names: of all bytes that it
-/// is given. It refuses nothing and cannot fail.
+/// The report of a key record and the orders that follow it, of all bytes that it is given, by the hash and code that the key
+/// record names. It refuses nothing and cannot fail: refusals stand in the report. The key record is refused with 6 and 7 as by
+/// `open`, then with 8, `Parameters`, for a hash or code number that is not known, then with 9 and 10 as by `open`; an order as
+/// by `verify`, and with 6, `Length`, where its stamp is cut short. Rules: `Reports`, and of the refusals `RefusesByLists`.
 pub fn report_of(input: &[u8]) -> Report<'_>
     ensures report { Reports input.now (reported result) }
     ensures only { (other : Reported) → Reports input.now other → other ≡ reported result }
@@ -88,9 +91,9 @@ pub fn report_of(input: &[u8]) -> Report<'_>
     }
 }
 
-/// Reads a key record and the orders that follow it from `input` into `room`, up to the input's end or 65,536 bytes; the rest
-/// is left unread. Checks them by the hash and code that the key record names. An error is that of a read, before 65,536 bytes
-/// were read; a read that is interrupted is tried again, and given up after 2^64 - 1 tries.
+/// Reads a key record and the orders that follow it from `input` into `room`, up to the input's end or `LIMIT` bytes; the rest
+/// is left unread. The report is that of the bytes that were read, as `report_of` makes it. An error is that of a read, before
+/// `LIMIT` bytes were read; a read that is interrupted is tried again, and given up after 2^64 - 1 tries, with `TimedOut`.
 pub fn check<'a, S: Source>(input: &mut S, room: &'a mut [u8; LIMIT]) -> io::Result<Report<'a>>
     ensures read { IfOk result (λ report. (bytes : List ℕ)
         × ReadUpTo S.gives most_read input.old bytes input.new

@@ -6,9 +6,9 @@ mod key;
 mod order;
 mod printing;
 mod reading;
-mod records;
 mod report;
 mod source;
+mod splitting;
 mod tour;
 
 pub use checking::{check, report_of};

@@ -3,14 +3,16 @@
 use records::Refusal;
 use std::fmt;
 
-/// An order: its number in the tour, counted from 1, and its outcome, the leaf number of one that opens.
+/// An order of a tour, with what verify answers to it.
 #[derive(Clone, Copy)]
 pub struct Order {
+    /// Its number in the tour, counted from 1.
     pub number: u64,
+    /// The leaf number of one that opens, or why it is refused.
     pub outcome: Result<u16, Refusal>,
 }
 
-// The text of a line, without its end.
+// The text of a line, without its end. Rule: `order_text`.
 impl fmt::Display for Order {
     ghost use Rattle.std.specs.Prelude.{Some};
     ghost use Rattle.orders.specs.Texts.{order_text};

@@ -10,8 +10,9 @@ ghost use Rattle.orders.specs.Texts.{report_text};
 use crate::{LIMIT, Source, check};
 use std::io::{self, Write};
 
-/// Reads and checks as `check` does, and prints the report on `out`. It answers `Ok` only where the report of all that is to be
-/// read was printed; else an error of `check`, before anything is printed, or one of printing. `room` is used up.
+/// Reads and checks as `check` does, and prints the report on `out`, a line for the key and one for each order. It answers `Ok`
+/// only where the report of all that is to be read was printed; else an error of `check`, before anything is printed, or one of
+/// printing. `room` is used up.
 pub fn print_report<S: Source, W: Write>(
     input: &mut S,
     room: &mut [u8; LIMIT],

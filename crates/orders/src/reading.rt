@@ -10,7 +10,7 @@ use std::io::{self, ErrorKind};
 /// As much of an input as is read, in bytes.
 pub const LIMIT: usize = 65_536;
 
-// One read, tried again where it was interrupted; after 2^64 - 1 tries it is given up.
+// One read, tried again where it was interrupted; after 2^64 - 1 tries it is given up, with `TimedOut`. Rule: `Tried`.
 fn read_some<S: Source>(input: &mut S, room: &mut [u8]) -> io::Result<usize>
     ensures within { ReadsAtMost result room.new }
     ensures tried { Tried S.gives input.old result room.new input.new }
@@ -38,7 +38,8 @@ fn read_after<S: Source>(input: &mut S, room: &mut [u8], filled: usize) -> io::R
     read_some(input, &mut room[filled..])
 }
 
-/// Reads up to the source's end or until the room is full, and answers how many bytes were read.
+/// Reads up to the source's end or until the room is full, and answers how many bytes were read: they are the front of the
+/// room. An error is that of the last read, or `TimedOut`, before the room was full. Rules: `ReadUpTo` and `Stopped`.
 pub fn fill<S: Source>(input: &mut S, room: &mut [u8]) -> io::Result<usize>
     ensures within { IfOk result (λ n. n ≤ length room.new) }
     ensures read { IfOk result (λ n.

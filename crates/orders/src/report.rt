@@ -9,10 +9,12 @@ use crate::{Orders, Tour};
 use records::Refusal;
 use std::fmt;
 
-/// The key record refused, and then no order is looked at; or opened, and the orders that follow it.
+/// What a key record and the orders that follow it come to.
 #[derive(Clone, Copy)]
 pub enum Report<'a> {
+    /// The key record is refused, and no order is looked at.
     Refused(Refusal),
+    /// The key record is opened; the orders are checked as they are handed out.
     Opened(Tour<'a>),
 }
 
@@ -27,7 +29,7 @@ fn write_orders<W: fmt::Write>(orders: Orders<'_>, f: &mut fmt::Formatter<W>) ->
     Ok(())
 }
 
-// A line for the key, and one for each order, counted from 1.
+// A line for the key, and one for each order, counted from 1. Rule: `report_text`.
 impl fmt::Display for Report<'_> {
     ghost output = { λ report. Some (report_text (reported report)) };
 

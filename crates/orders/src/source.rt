@@ -8,23 +8,24 @@ ghost use Rattle.orders.specs.Reading.{Giving};
 
 use std::io::{self, Read};
 
-/// What bytes are read from: every reader.
+/// What bytes are read from: every reader. Its meaning is what its reads give, and the bytes that are left where they are
+/// known.
 pub trait Source {
-    // The bytes that reads will give from here on, where they are known.
+    /// The bytes that reads will give from here on, where they are known.
     ghost remaining: { Self → Option (List ℕ) };
 
-    // What a read does: the source before it, its answer, the room and the source after it.
+    /// What a read does: the source before it, its answer, the room and the source after it.
     ghost gives: { Giving Self };
 
-    /// One read into the front of the room: how many bytes it gave, none at the end.
+    /// One read into the front of the room: how many bytes it gave, none at the end; or the error that it answers.
     fn read_once(&mut self, room: &mut [u8]) -> io::Result<usize>
         ensures { gives self.old result room.new self.new };
 
-    // A read gives no more bytes than there is room for.
+    /// A read gives no more bytes than there is room for.
     ghost within: { (before after : Self) (r : Result ℕ Error) (room : List ℕ) →
         gives before r room after → ReadsAtMost r room };
 
-    // Known bytes lose those that a read gave.
+    /// Known bytes lose those that a read gave; where it fails, they stay.
     ghost bytes: { (before after : Self) (r : Result ℕ Error) (room : List ℕ) →
         gives before r room after → ReadConsumes (remaining before) (remaining after) r room };
 }

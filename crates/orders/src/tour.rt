@@ -2,7 +2,7 @@
 
 ghost use Rattle.std.specs.Prelude.{◌≡◌, ◌+◌, ◌<◌, ◌^◌, ◌∷◌, length, suc};
 
-use crate::records::split_record;
+use crate::splitting::split_record;
 use crate::{KeySummary, Order};
 use codes::Code;
 use hashes::TreeHash;
@@ -23,14 +23,14 @@ impl<'a> Tour<'a> {
     ghost use Rattle.orders.specs.Texts.{numbered};
     ghost use Rattle.orders.specs.Views.{summary_of, answers_of, orders_left};
 
-    /// What the key record names.
+    /// What the key record names: the numbers of hash and code, and the height.
     pub fn summary(&self) -> KeySummary
         ensures { result ≡ summary_of self.now }
     {
         self.summary
     }
 
-    /// The orders, from the first on.
+    /// The orders, from the first on. None is checked yet.
     pub fn orders(&self) -> Orders<'a>
         ensures { orders_left result ≡ numbered 1 (answers_of self.now) }
     {
@@ -43,7 +43,8 @@ impl<'a> Tour<'a> {
     }
 }
 
-/// The orders of a tour, handed out one by one: each is checked as it is handed out.
+/// The orders of a tour, handed out one by one, counted from 1: each is checked as it is handed out, by the hash and code that
+/// the key record names. Rule: `orders_left`.
 #[derive(Drop)]
 pub struct Orders<'a> {
     scheme: Scheme,
@@ -80,7 +81,8 @@ impl<'a> Orders<'a> {
     ghost use Rattle.orders.specs.Outcomes.{answers_to};
     ghost use Rattle.orders.specs.Views.{answer_under};
 
-    // The outcome of the first order in the rest, and the bytes of the others.
+    // The outcome of the first order in the rest, a stamp of 16 bytes and a release record, and the bytes of the others. A
+    // stamp that is cut short is refused with 6, `Length`, and no bytes are left.
     fn first(&self) -> (Result<u16, Refusal>, &'a [u8])
         requires { 0 < length self.now.rest.now }
         ensures first { answers_to (answer_under self.now.scheme self.now.key) self.now.rest.now ≡

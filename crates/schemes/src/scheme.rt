@@ -1,8 +1,8 @@
 //! A hash and a code, and work that is done with any of them.
 
 ghost use Rattle.std.specs.Prelude.{◌≡◌, ◌↔◌, IsErr};
-ghost use Rattle.schemes.specs.Names.{hash_named, code_named, scheme_numbered, UnknownNumbers};
 ghost use Rattle.tree.specs.Meaning.{Hash, Code, hash_of, code_of};
+ghost use Rattle.schemes.specs.Names.{hash_named, code_named, scheme_numbered, UnknownNumbers};
 
 use crate::{CodeName, HashName, UnknownScheme};
 use aes128::Aes128Hash;
@@ -10,14 +10,16 @@ use codes::{Code, LamportDiffie, Winternitz2, Winternitz4};
 use hashes::{Practice, TreeHash};
 use sha256::Sha256Hash;
 
-/// Work that is written for any hash and code.
+/// Work that is written for any hash and code. Its meaning is the relation `gives`.
 pub trait Task {
+    /// What the work answers.
     type Output;
 
-    // Relates the task before the work, the hash and the code, the answer, and the task after the work. What the work writes
-    // through a reference of the task is said by `Wrote`.
+    /// Relates the task before the work, the hash and the code, the answer, and the task after the work. What the work writes
+    /// through a reference of the task is said by `Wrote`.
     ghost gives: { Self → Hash → Code → Self.Output → Self → Type 0 };
 
+    /// Does the work with hash `H` and code `C`.
     fn run<H: TreeHash, C: Code>(&mut self) -> Self::Output
         ensures { gives self.old (hash_of H.TreeHash) (code_of C.Code) result
             self.new };
@@ -38,12 +40,15 @@ fn run_code<H: TreeHash, T: Task>(code: CodeName, task: &mut T) -> T::Output
 /// A hash and a code, by their names.
 #[derive(Clone, Copy, PartialEq, Eq, Debug)]
 pub struct Scheme {
+    /// The hash of chains and nodes.
     pub hash: HashName,
+    /// The code of the one-time signatures.
     pub code: CodeName,
 }
 
 impl Scheme {
-    /// The hash and the code with these numbers.
+    /// The hash and the code with these numbers, as bytes 6 and 7 of a key record have them. Gives the error exactly where no
+    /// hash has the first number, or no code the second. Rule: `scheme_numbered`.
     pub fn numbered(hash: u8, code: u8) -> Result<Scheme, UnknownScheme>
         ensures value { result ≡ scheme_numbered hash code }
         ensures unknown { IsErr result ↔ UnknownNumbers hash code }
@@ -53,7 +58,7 @@ impl Scheme {
         Ok(Scheme { hash, code })
     }
 
-    /// Does the work with the hash and the code.
+    /// Does the work with the hash and the code, and gives its answer.
     pub fn run<T: Task>(self, task: &mut T) -> T::Output
         ensures { T.gives task.old (hash_named self.hash) (code_named self.code) result task.new }
     {

@@ -4,7 +4,7 @@ ghost use Rattle.std.specs.Prelude.{Some, codes};
 
 use std::fmt;
 
-/// No hash has the number, or no code.
+/// No hash has the number, or no code. It is none of the refusals, and has no number; it prints as `unknown scheme`.
 #[derive(Clone, Copy, PartialEq, Eq, Debug)]
 pub struct UnknownScheme;
 

@@ -5,6 +5,7 @@ use Rattle.std.proofs.lemmas.Bool.{cond-true, cond-false, eq-eqb, ne_eqb, lt-leb
 use Rattle.std.specs.Bool.{then_some}
 use Rattle.std.specs.List.{position_or_len}
 use Rattle.std.specs.Option.{option_map}
+use Rattle.scripts.specs.Ascii.{space}
 use Rattle.scripts.specs.Digits.{number_from, at_most}
 use Rattle.scripts.specs.Hex.{hex_digit, byte_of, onto, hex_bytes, of_length, hex_of}
 use Rattle.scripts.specs.Words.{word_of, after_word, left_after, string_word}
@@ -12,12 +13,12 @@ use Rattle.scripts.specs.Words.{word_of, after_word, left_after, string_word}
 -- words
 
 -- where the first space is, or the length
-abbrev pub space : List ℕ → ℕ
-space xs = position_or_len (λ c. c == 32) xs
+abbrev pub first_space : List ℕ → ℕ
+first_space xs = position_or_len (λ c. c == space) xs
 
-word-space : (xs : List ℕ) → word_of xs ≡ take (space xs) xs
+word-space : (xs : List ℕ) → word_of xs ≡ take (first_space xs) xs
 word-space [] = refl
-word-space (x ∷ xs) = turned (x == 32) (space xs) (word-space xs)
+word-space (x ∷ xs) = turned (x == space) (first_space xs) (word-space xs)
   where
     turned : (b : Bool) (n : ℕ) → word_of xs ≡ take n xs → cond b [] (x ∷ word_of xs) ≡ take (cond (not b) (1 + n) 0) (x ∷ xs)
     turned true n e = refl
@@ -27,20 +28,20 @@ abbrev past : List ℕ → Option (List ℕ)
 past [] = None
 past (x ∷ xs) = Some xs
 
-after-space : (xs : List ℕ) → after_word xs ≡ past (drop (space xs) xs)
+after-space : (xs : List ℕ) → after_word xs ≡ past (drop (first_space xs) xs)
 after-space [] = refl
-after-space (x ∷ xs) = turned (x == 32) (space xs) (after-space xs)
+after-space (x ∷ xs) = turned (x == space) (first_space xs) (after-space xs)
   where
     turned : (b : Bool) (n : ℕ) → after_word xs ≡ past (drop n xs) → cond b (Some xs) (after_word xs) ≡ past (drop (cond (not b) (1 + n) 0) (x ∷ xs))
     turned true n e = refl
     turned false n e = let h : suc n ≡ 1 + n = omega arith in e ∙ ap (λ k. past (drop k (x ∷ xs))) h
 
 -- the first word and what stands after it, by the place of the first space
-pub word-cut : (xs : List ℕ) (r : Option ℕ) → r ≡ position (λ c. c == 32) xs → MatchOption r ((xs ≡ word_of xs) × (None ≡ after_word xs)) (λ i. (take i xs ≡ word_of xs) × (Some (drop (i + 1) xs) ≡ after_word xs))
+pub word-cut : (xs : List ℕ) (r : Option ℕ) → r ≡ position (λ c. c == space) xs → MatchOption r ((xs ≡ word_of xs) × (None ≡ after_word xs)) (λ i. (take i xs ≡ word_of xs) × (Some (drop (i + 1) xs) ≡ after_word xs))
 word-cut xs r is = rw is (split (nat_lt n (length xs)) refl)
   where
     n : ℕ
-    n = space xs
+    n = first_space xs
 
     split : (b : Bool) → nat_lt n (length xs) ≡ b → MatchOption (cond b (Some n) None) ((xs ≡ word_of xs) × (None ≡ after_word xs)) (λ i. (take i xs ≡ word_of xs) × (Some (drop (i + 1) xs) ≡ after_word xs))
     split true e = (sym (word-space xs), sym (after-space xs ∙ ap past (drop_more xs n 0 (ltb-true n (length xs) e))))

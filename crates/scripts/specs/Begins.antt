@@ -1,13 +1,13 @@
 -- Beginning a key.
 use Rattle.std.specs.Prelude.{◌≡◌, ◌↔◌, ℕ, IsOk, Some, None, Option, Ok, Err, Result}
+use Rattle.records.specs.Causes.{NoCause, Refuses}
+use Rattle.records.specs.declared.refusal.Refusal.{Refusal}
 use Rattle.rules.specs.Conditions.{plan_causes}
 use Rattle.rules.specs.Rules.{plan_rule}
+use Rattle.signer.specs.Views.{height_of_plan}
 use Rattle.schemes.specs.Names.{scheme_numbered, UnknownNumbers}
 use Rattle.schemes.specs.declared.scheme.Scheme.{Scheme}
 use Rattle.schemes.specs.declared.unknown.UnknownScheme as unknown
-use Rattle.signer.specs.Views.{height_of_plan}
-use Rattle.records.specs.Causes.{NoCause, Refuses}
-use Rattle.records.specs.declared.refusal.Refusal.{Refusal}
 use Rattle.scripts.specs.declared.begin.NotBegun.{NotBegun}
 use Rattle.scripts.specs.declared.begin.NotBegun.TheVariants.{Refused, UnknownScheme}
 use Rattle.scripts.specs.declared.begin.Start.{Start}
@@ -17,6 +17,7 @@ pub record Named : Type 0 where
   pub height : ℕ
   pub scheme : Scheme
 
+-- what a start names
 abbrev pub start_of : Start → Named
 start_of s = record { height = height_of_plan s.plan; scheme = s.scheme }
 

@@ -2,8 +2,10 @@
 use Rattle.std.specs.Prelude.{ℕ, if◌then◌else◌, List, [], length, Some, None, codes, Option, ◌==◌}
 use Rattle.std.specs.Option.{option_map}
 use Rattle.std.specs.Str.{bytes_eq}
+use Rattle.records.specs.Records.{longest_release}
 use Rattle.scripts.specs.Digits.{number_rule}
 use Rattle.scripts.specs.Hex.{hex_bytes}
+use Rattle.scripts.specs.Sizes.{most_room, largest_leaf}
 use Rattle.scripts.specs.Words.{and_then, string_word}
 use Rattle.scripts.specs.declared.call.Call.{Call}
 use Rattle.scripts.specs.declared.call.Call.TheVariants.{Grow, Nodes, Finish, Key, Sign}
@@ -20,6 +22,7 @@ pub data Said : Type 0 where
   retire : Said
   trace : (stamp bytes : List ℕ) → Said
 
+-- what a call says
 abbrev pub said : Call → Said
 said Grow = grow
 said Nodes = nodes
@@ -37,17 +40,20 @@ alone call (Some rest) = None
 
 -- how long the output is: as much as any record takes, where nothing is said of it
 abbrev pub room_rule : Option (List ℕ) → Option ℕ
-room_rule None = Some 4232
-room_rule (Some text) = number_rule 65536 text
+room_rule None = Some longest_release
+room_rule (Some text) = number_rule most_room text
 
+-- key [ROOM]
 abbrev pub read_key : Option (List ℕ) → Option Said
 read_key rest = option_map key (room_rule rest)
 
+-- sign STAMP [ROOM]
 abbrev pub read_sign : Option (List ℕ) → Option Said
 read_sign rest = and_then (string_word rest) (λ w. option_map (sign w.word) (room_rule w.rest))
 
+-- skip N
 abbrev pub read_skip : Option (List ℕ) → Option Said
-read_skip rest = and_then rest (λ text. option_map skip (number_rule 65535 text))
+read_skip rest = and_then rest (λ text. option_map skip (number_rule largest_leaf text))
 
 -- a record: its bytes as hex digits, or - for no bytes
 abbrev pub record_rule : List ℕ → Option (List ℕ)
@@ -55,11 +61,13 @@ record_rule text =
     if bytes_eq text (codes "-") then Some [] else
     if length text == 0 then None else hex_bytes text
 
+-- trace STAMP RECORD
 abbrev pub read_trace : Option (List ℕ) → Option Said
 read_trace rest =
     and_then (string_word rest)
     (λ w. and_then w.rest (λ t. option_map (trace w.word) (record_rule t)))
 
+-- the call with this name, and what follows the name
 abbrev pub read_call : List ℕ → Option (List ℕ) → Option Said
 read_call name rest =
     if bytes_eq name (codes "grow") then alone grow rest else

@@ -1,3 +1,5 @@
+pub mod Ascii
+pub mod Sizes
 pub mod Hex
 pub mod Digits
 pub mod Words

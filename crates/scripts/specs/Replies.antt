@@ -2,15 +2,17 @@
 use Rattle.std.specs.Prelude.{ℕ, zero, suc, List, [], ◌∷◌, ◌++◌, take, replicate, Some, None, Ok}
 use Rattle.std.specs.Prelude.{Err, Option, Result}
 use Rattle.std.specs.List.{flat_map}
-use Rattle.codes.specs.declared.Code as code_trait
 use Rattle.hashes.specs.declared.ChainHash as chain_hash
 use Rattle.hashes.specs.declared.TreeHash as tree_hash
-use Rattle.histories.specs.Histories.{State, growing, serving, retired}
+use Rattle.codes.specs.declared.Code as code_trait
+use Rattle.tree.specs.Meaning.{Hash, Code}
+use Rattle.growth.specs.Grown.{held_levels}
+use Rattle.records.specs.declared.refusal.Refusal.{Refusal}
+use Rattle.compare.specs.Found.{report_size}
 use Rattle.rules.specs.Rules as signer_rules
 use Rattle.rules.specs.States.{Making, Signing}
+use Rattle.histories.specs.Histories.{State, growing, serving, retired}
 use Rattle.signer.specs.Views.{making_of, signing_of, signing_of_retired}
-use Rattle.tree.specs.Meaning.{Hash, Code}
-use Rattle.records.specs.declared.refusal.Refusal.{Refusal}
 use Rattle.scripts.specs.Calls.{Said, grow, nodes, finish, key, sign, skip, retire, trace}
 use Rattle.scripts.specs.declared.answer.Answer.{Answer}
 use Rattle.scripts.specs.declared.answer.Answer.TheVariants.{Begun, Grown, Nodes, Finished, Key}
@@ -29,6 +31,7 @@ pub record Held : Type 0 where
   pub position : ℕ
   pub node : List ℕ
 
+-- a node of an answer
 abbrev pub node_of : Node → Held
 node_of n = record { level = n.level; position = n.position; node = n.node }
 
@@ -53,6 +56,7 @@ pub data Told : Type 0 where
   not_now : Told
   no_call : Told
 
+-- what an answer tells
 abbrev pub told : Answer → Told
 told (Begun hash code height) = begun hash code height
 told (Grown n) = grown n
@@ -73,6 +77,7 @@ abbrev pub not_begun_reply : NotBegun → Told
 not_begun_reply (not_begun.Refused e) = refused e
 not_begun_reply not_begun.UnknownScheme = unknown_scheme
 
+-- what an answer of the signer tells, or its refusal
 abbrev pub answered : {A : Type 0} → (A → Told) → Result A Refusal → Told
 answered f (Ok x) = f x
 answered f (Err e) = refused e
@@ -87,31 +92,34 @@ unfoldable pub held_below : Making → ℕ → List Held
 held_below m zero = []
 held_below m (suc n) = held_below m n ++ held_one n (signer_rules.held_rule m n)
 
--- all nodes that are held: those of levels 0 to 8, since no key is higher
+-- all nodes that are held (the treehash stack), lowest level number first: no key has more levels
 abbrev pub held_nodes : Making → List Held
-held_nodes m = held_below m 9
+held_nodes m = held_below m held_levels
 
 -- an output of this size: zeros
 abbrev pub output : ℕ → List ℕ
 output room = replicate room 0
 
 module _ (hash : Hash) (code : Code) where
+  -- key: the record stands at the front of the output
   abbrev pub key_reply : Signing → ℕ → Told
   key_reply s room =
       answered
       (λ n. keyed (take n (signer_rules.key_output hash code s (output room))))
       (signer_rules.key_answer code s (output room))
 
+  -- sign: likewise, with the leaf that was spent
   abbrev pub sign_reply : Signing → List ℕ → ℕ → Told
   sign_reply s stamp room =
       answered
       (λ x. signed x.1 (take x.0 (signer_rules.sign_output hash code s stamp (output room))))
       (signer_rules.sign_answer code s (output room))
 
+  -- trace: the verdict, and the report that it leaves
   abbrev pub trace_reply : Signing → List ℕ → List ℕ → Told
   trace_reply s stamp bytes =
       answered
-      (λ x. verdict x (signer_rules.trace_report hash code s stamp bytes (output 64)))
+      (λ x. verdict x (signer_rules.trace_report hash code s stamp bytes (output report_size)))
       (signer_rules.trace_answer hash code s stamp bytes)
 
   -- the answer to a call, in each state
@@ -170,6 +178,7 @@ module _ (hash : Hash) (code : Code) where
   leaves (retired s) (trace stamp bytes) = retired s
 
 module _ {H C : Type 0} {tree : tree_hash.Ghosts H} {chain : chain_hash.Ghosts H} where
+  -- the state that a session is in
   abbrev pub state_of : {code : code_trait.Ghosts C} → Session H C tree chain code → State
   state_of (session.Growing m) = growing (making_of m)
   state_of (session.Serving s) = serving (signing_of s)

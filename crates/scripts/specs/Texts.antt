@@ -4,9 +4,8 @@ use Rattle.std.specs.Fmt.{decimal}
 use Rattle.std.specs.List.{flat_map}
 use Rattle.strings.specs.Hex.{hex_text}
 use Rattle.records.specs.Refusals.{refusal_number}
-use Rattle.scripts.specs.Replies.{Held, Told}
-use Rattle.scripts.specs.Replies.{begun, grown, held, finished, keyed, signed, next, gone}
-use Rattle.scripts.specs.Replies.{verdict, refused, unknown_scheme, not_now, no_call}
+use Rattle.scripts.specs.Replies.{Held, Told, begun, grown, held, finished, keyed, signed, next}
+use Rattle.scripts.specs.Replies.{gone, verdict, refused, unknown_scheme, not_now, no_call}
 
 -- two texts with a space between them
 infixr 65 ◌␣◌

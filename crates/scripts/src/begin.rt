@@ -1,35 +1,44 @@
 //! The first call of a key.
 
 ghost use Rattle.std.specs.Prelude.{◌≡◌};
-ghost use Rattle.scripts.specs.Begins.{start_of, start_rule, StartRefuses};
 ghost use Rattle.records.specs.Rules.{seen};
+ghost use Rattle.scripts.specs.Begins.{start_of, start_rule, StartRefuses};
 
 use records::Refusal;
 use schemes::{Scheme, UnknownScheme};
 use signer::Plan;
+use tree::rows::MASKS;
 
-/// The numbers of a hash and a code, and what a key is grown from.
+/// The numbers of a hash and a code, and what a key is grown from. None of it is checked yet.
 #[derive(Clone, Copy)]
 pub struct Begin {
+    /// The number of the hash.
     pub hash: u8,
+    /// The number of the code.
     pub code: u8,
+    /// The height of the tree.
     pub height: u8,
+    /// The seed, which all secrets are made from.
     pub seed: [u8; 16],
+    /// The key of the hash.
     pub hash_key: [u8; 16],
-    pub masks: [u8; 512],
+    /// The bitmasks: string 2a is the left mask of level a, string 2a + 1 the right one.
+    pub masks: [u8; MASKS],
 }
 
 /// What a begin names, where it begins a key.
 #[derive(Clone, Copy)]
 pub struct Start {
+    /// A key of 2^height leaves.
     pub plan: Plan,
+    /// The hash and the code.
     pub scheme: Scheme,
 }
 
 /// Why a begin begins no key.
 #[derive(Clone, Copy, PartialEq, Eq, Debug)]
 pub enum NotBegun {
-    /// A plan is refused.
+    /// Its plan is refused, with 1, `Plan`.
     Refused(Refusal),
     /// No hash or no code has the number.
     UnknownScheme,
@@ -58,7 +67,8 @@ impl From<UnknownScheme> for NotBegun {
 }
 
 impl Begin {
-    /// Answers an error for a height outside 1 to 8, and then for a hash or code that is not known.
+    /// The plan and the scheme that a begin names. Refuses with 1, `Plan`, a height outside 1 to 8; and then answers
+    /// `NotBegun::UnknownScheme` for a hash or code that is not known. Rule: `start_rule`.
     pub fn start(&self) -> Result<Start, NotBegun>
         ensures value { seen start_of result ≡
             start_rule self.now.hash self.now.code self.now.height }

@@ -2,26 +2,37 @@
 
 ghost use Rattle.std.specs.Prelude.{◌≡◌, ◌≤◌, length};
 ghost use Rattle.std.specs.Option.{option_map};
-ghost use Rattle.scripts.specs.Calls.{said, alone, room_rule, read_key, read_sign, read_skip, read_trace, read_call, record_rule};
+ghost use Rattle.scripts.specs.Calls.{said, alone, room_rule, record_rule};
+ghost use Rattle.scripts.specs.Calls.{read_key, read_sign, read_skip, read_trace, read_call};
+ghost use Rattle.scripts.specs.Sizes.{longest_line};
 ghost use Rattle.scripts.specs.Words.{left_of};
 
 use crate::digits::number;
 use crate::words::Words;
 use crate::{LONGEST_RECORD, MOST_ROOM, Room, hex};
+use records::LONGEST_RELEASE;
 
 // The output's size where none is given: as much as any record takes.
-const ROOM: u32 = 4_232;
+const ROOM: u32 = LONGEST_RELEASE as u32;
 
 /// A call, with what it is given.
 #[derive(Clone, Copy)]
 pub enum Call<'a> {
+    /// Adds the next leaf.
     Grow,
+    /// Tells which nodes are held.
     Nodes,
+    /// Grows whatever leaves are lacking, and puts the key into service.
     Finish,
+    /// Writes the key record into an output of this size.
     Key { room: Room },
+    /// Spends the next leaf on the stamp, and writes the release record into an output of this size.
     Sign { stamp: [u8; 16], room: Room },
+    /// Makes `leaf` the next leaf.
     Skip { leaf: u16 },
+    /// Takes the key out of service.
     Retire,
+    /// Compares a release record for the stamp with the ledger.
     Trace { stamp: [u8; 16], record: &'a [u8] },
 }
 
@@ -32,7 +43,7 @@ fn alone_call<'a>(call: Call<'a>, words: Words<'_>) -> Option<Call<'a>>
     words.text.is_none().then_some(call)
 }
 
-// ROOM, which may be left out.
+// ROOM, a number of at most `MOST_ROOM`, which may be left out.
 fn read_room(words: Words<'_>) -> Option<Room>
     ensures { option_map (λ room. room.bytes) result ≡ room_rule (left_of words.entry) }
 {
@@ -62,7 +73,7 @@ fn read_sign(mut words: Words<'_>) -> Option<Call<'static>>
     Some(Call::Sign { stamp, room })
 }
 
-// skip N
+// skip N, a number of two bytes
 fn read_skip(words: Words<'_>) -> Option<Call<'static>>
     ensures { option_map said result ≡ read_skip (left_of words.entry) }
 {
@@ -72,7 +83,7 @@ fn read_skip(words: Words<'_>) -> Option<Call<'static>>
 
 // RECORD: hex digits, or - for no bytes. The bytes are written into the front of `store`.
 fn read_record<'a>(text: &[u8], store: &'a mut [u8; LONGEST_RECORD]) -> Option<&'a [u8]>
-    requires { length text.now ≤ 65536 }
+    requires { length text.now ≤ longest_line }
     ensures { option_map (λ bytes. bytes.now) result ≡ record_rule text.now }
 {
     match text {
@@ -92,7 +103,8 @@ fn read_trace<'a>(mut words: Words<'_>, store: &'a mut [u8; LONGEST_RECORD]) -> 
 }
 
 impl<'a> Call<'a> {
-    /// The call with this name and these words. The record of a trace is written into the front of `store`.
+    /// The call with this name and these words, where there is one. The record of a trace is written into the front of `store`,
+    /// and the call borrows it there. Rule: `read_call`.
     pub(crate) fn read(
         name: &str,
         words: Words<'_>,

@@ -3,7 +3,8 @@
 ghost use Rattle.std.specs.Prelude.{◌≡◌, ◌≤◌, IfSome};
 ghost use Rattle.scripts.specs.Digits.{number_rule};
 
-/// The number that a text of decimal digits names, where it is at most `most`.
+/// The number that a text of decimal digits names, one at least, where it is at most `most`; leading zeros count for nothing.
+/// Rule: `number_rule`.
 pub(crate) fn number(text: &[u8], most: u32) -> Option<u32>
     ensures value { result ≡ number_rule most text.now }
     ensures within { IfSome result (λ n. n ≤ most) }

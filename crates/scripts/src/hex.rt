@@ -3,6 +3,7 @@
 ghost use Rattle.std.specs.Prelude.{◌≡◌, ◌<◌, ◌≤◌, length, IfSome};
 ghost use Rattle.std.specs.Option.{option_map};
 ghost use Rattle.scripts.specs.Hex.{hex_digit, byte_of, hex_bytes, hex_of};
+ghost use Rattle.scripts.specs.Sizes.{longest_line};
 
 use crate::LONGEST_RECORD;
 
@@ -25,7 +26,7 @@ fn byte(high: u8, low: u8) -> Option<u8>
     Some(16 * value(high)? + value(low)?)
 }
 
-// Writes the bytes that a text names, where it is hex digits, two for each.
+// Writes the bytes that a text names, where it is hex digits, two for each byte of `out`. Where it is not, `out` is used up.
 fn fill(mut text: &[u8], out: &mut [u8]) -> Option<()>
     ensures { option_map (λ x. out.new) result ≡ hex_of (length out.old) text.entry.now }
 {
@@ -39,9 +40,10 @@ fn fill(mut text: &[u8], out: &mut [u8]) -> Option<()>
     text.is_empty().then_some(())
 }
 
-/// The bytes that a text names, where it is hex digits. They are written into the front of `store`.
+/// The bytes that a text of a line names, where it is hex digits, two for each. They are written into the front of `store`.
+/// Rule: `hex_bytes`.
 pub(crate) fn bytes<'a>(text: &[u8], store: &'a mut [u8; LONGEST_RECORD]) -> Option<&'a [u8]>
-    requires { length text.now ≤ 65536 }
+    requires { length text.now ≤ longest_line }
     ensures { option_map (λ b. b.now) result ≡ hex_bytes text.now }
 {
     if text.len() % 2 != 0 {
@@ -52,7 +54,7 @@ pub(crate) fn bytes<'a>(text: &[u8], store: &'a mut [u8; LONGEST_RECORD]) -> Opt
     Some(out)
 }
 
-/// The N bytes that a text names, where it is hex digits, two for each.
+/// The `N` bytes that a text names, where it is hex digits, two for each. Rule: `hex_of`.
 pub(crate) fn array<const N: usize>(text: &[u8]) -> Option<[u8; N]>
     ensures { result ≡ hex_of N text.now }
 {

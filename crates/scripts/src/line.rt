@@ -10,17 +10,19 @@ use crate::{Begin, Call, hex};
 /// As long as a line may be, in bytes.
 pub const LONGEST: usize = 65_536;
 
-/// As long as the record of a line can be, in bytes.
+/// As long as the record of a line can be, in bytes: each takes two digits of the line.
 pub const LONGEST_RECORD: usize = LONGEST / 2;
 
 /// What a line asks for.
 #[derive(Clone, Copy)]
 pub enum Line<'a> {
-    /// Nothing to answer.
+    /// Nothing to answer: the line is empty or begins with `#`.
     Silent,
-    /// Not a call.
+    /// Not a call: the line is longer than `LONGEST`, or its words are none of a call's.
     NoCall,
+    /// A key is to be begun.
     Begin(Begin),
+    /// A call of a key that is begun.
     Call(Call<'a>),
 }
 
@@ -45,7 +47,8 @@ fn read_begin(mut words: Words<'_>) -> Option<Begin>
 }
 
 impl<'a> Line<'a> {
-    /// Reads a line. The record of a trace is written into the front of `store`, and the call borrows it there.
+    /// Reads a line, without its end. The record of a trace is written into the front of `store`, and the call borrows it
+    /// there; all other bytes of `store` are used up. Rule: `line_rule`.
     pub fn read(text: &[u8], store: &'a mut [u8; LONGEST_RECORD]) -> Line<'a>
         ensures { line_of result ≡ line_rule text.now }
     {

@@ -1,4 +1,4 @@
-//! The lines that are printed of answers.
+//! The lines that are printed of answers: bytes as lower-case hex digits, numbers as decimal digits.
 
 ghost use Rattle.std.specs.Prelude.{Some};
 ghost use Rattle.std.specs.Fmt.{DisplaysOnOk};
@@ -10,7 +10,7 @@ use crate::{Answer, Node};
 use std::fmt;
 use strings::Hex;
 
-// LEVEL:POSITION:NODE
+// LEVEL:POSITION:NODE. Rule: `node_text`.
 impl fmt::Display for Node {
     ghost output = { λ node. Some (node_text (node_of node)) };
 
@@ -21,7 +21,8 @@ impl fmt::Display for Node {
 
 // A node of a list, or nothing.
 fn write_level<W: fmt::Write>(level: &Option<Node>, f: &mut fmt::Formatter<W>) -> fmt::Result
-    ensures { DisplaysOnOk W.write_str_gives f.old result (Some (nodes_text (held_in level.now))) f.new }
+    ensures { DisplaysOnOk W.write_str_gives f.old result
+        (Some (nodes_text (held_in level.now))) f.new }
 {
     match level {
         Some(node) => write!(f, " {node}"),
@@ -40,7 +41,7 @@ fn write_levels<W: fmt::Write>(levels: &[Option<Node>], f: &mut fmt::Formatter<W
     Ok(())
 }
 
-// A line, without its end.
+// A line, without its end. Rule: `line_text`.
 impl fmt::Display for Answer<'_> {
     ghost output = { λ answer. Some (line_text (told answer)) };
 

@@ -1,12 +1,12 @@
-//! A key from its begin on.
+//! A key from its begin on, and the calls on it.
 
 ghost use Rattle.std.specs.Prelude.{◌≡◌};
-ghost use Rattle.histories.specs.Histories.{growing};
+ghost use Rattle.tree.specs.Meaning.{hash_of, code_of};
 ghost use Rattle.rules.specs.Rules.{begin_rule};
+ghost use Rattle.histories.specs.Histories.{growing};
+ghost use Rattle.signer.specs.Views.{height_of_plan};
 ghost use Rattle.scripts.specs.Calls.{said};
 ghost use Rattle.scripts.specs.Replies.{told, state_of, reply, leaves};
-ghost use Rattle.signer.specs.Views.{height_of_plan};
-ghost use Rattle.tree.specs.Meaning.{hash_of, code_of};
 
 use crate::session::maker_calls::while_growing;
 use crate::session::retired_calls::out_of_service;
@@ -22,16 +22,19 @@ mod retired_calls;
 mod signer_calls;
 mod unchanged;
 
-/// A key: being grown, in service, or retired.
+/// A key, in one of its three states. Each has calls of its own.
 #[derive(Drop)]
 pub enum Session<H: TreeHash, C: Code> {
+    /// Being grown: grow, nodes and finish.
     Growing(Maker<H, C>),
+    /// In service: key, sign, skip, retire and trace.
     Serving(Signer<H, C>),
+    /// Out of service: key and trace.
     Retired(Retired<H, C>),
 }
 
 impl<H: TreeHash, C: Code> Session<H, C> {
-    /// Begins a key.
+    /// Begins a key: no leaf is in. Rule: `begin_rule`.
     pub fn begin(plan: Plan, begin: &Begin) -> Session<H, C>
         ensures { state_of result ≡ growing (begin_rule
             (record {
@@ -44,8 +47,11 @@ impl<H: TreeHash, C: Code> Session<H, C> {
         Session::Growing(Maker::begin(plan, begin.seed, begin.hash_key, begin.masks))
     }
 
-    /// Answers a call. One that the key does not have now changes nothing. A record is written into the front of `out`, and the
-    /// answer borrows it there.
+    /// Answers a call, and gives the session as the call leaves it. One that the key does not have now is answered
+    /// `Answer::NotNow`, and one that is refused `Answer::Refused`; both change nothing. Refused are, as by the signer, grow
+    /// with 2, `Grown`; sign with 3, `Spent`; key and sign with 4, `Output`; skip with 5, `Skip`; trace with 6, 7, 10, 11 and
+    /// 12. A record is written into the front of `out`, as long as the call's room says and zero before, and the answer borrows
+    /// it there; all other bytes of `out` are used up. Rules: `reply` and `leaves`.
     pub fn answer<'o>(
         self,
         call: &Call<'_>,

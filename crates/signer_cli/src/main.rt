@@ -1,5 +1,5 @@
-//! signer_cli: reads calls of a signer from standard input, a line for each, and prints a line of answer for each. All its memory is
-//! taken before the first line is read.
+//! signer_cli: reads calls of a signer from standard input, a line for each, and prints a line of answer for each. All its
+//! memory is taken before the first line is read.
 #![tactic(auto)]
 
 ghost use Rattle.std.specs.Prelude.{⊤};
@@ -16,8 +16,11 @@ use std::io::{BufRead, BufReader, Read, Stdin};
 enum Heard<'a> {
     // Nothing is left to do.
     Done,
+    // A begin that begins a key.
     Begin(Begin, Start),
+    // A call, of a key that is begun.
     Call(Call<'a>),
+    // There is no line more.
     End,
 }
 
@@ -26,11 +29,14 @@ enum Heard<'a> {
 struct Console<'r> {
     rt: &'r HostRuntime,
     input: BufReader<Stdin>,
+    // The last line that was read.
     line: Vec<u8>,
+    // The record of its trace, in front.
     record: [u8; LONGEST_RECORD],
 }
 
 impl<'r> Console<'r> {
+    // Takes all the memory that the program needs.
     fn new(rt: &'r HostRuntime) -> anyhow::Result<Console<'r>> {
         Ok(Console {
             rt,
@@ -96,10 +102,11 @@ impl<'r> Console<'r> {
     }
 }
 
-// Serves a key up to the next begin, or to the end.
+// Serves a key up to the next begin that begins a key, which it answers, or to the end.
 #[derive(Drop)]
 struct Serve<'a, 'r> {
     console: &'a mut Console<'r>,
+    // Where key and sign write their records.
     out: &'a mut [u8; MOST_ROOM],
     begin: &'a Begin,
     plan: Plan,

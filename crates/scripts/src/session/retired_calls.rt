@@ -1,11 +1,11 @@
 //! The calls of a retired key.
 
 ghost use Rattle.std.specs.Prelude.{◌≡◌};
+ghost use Rattle.tree.specs.Meaning.{hash_of, code_of};
 ghost use Rattle.histories.specs.Histories.{retired};
+ghost use Rattle.signer.specs.Views.{signing_of_retired};
 ghost use Rattle.scripts.specs.Calls.{said};
 ghost use Rattle.scripts.specs.Replies.{told, state_of, reply, leaves};
-ghost use Rattle.signer.specs.Views.{signing_of_retired};
-ghost use Rattle.tree.specs.Meaning.{hash_of, code_of};
 
 use crate::session::unchanged::{key, trace};
 use crate::{Answer, Call, MOST_ROOM, Session};
@@ -13,7 +13,7 @@ use codes::Code;
 use hashes::TreeHash;
 use signer::Retired;
 
-/// Answers a call of a retired key.
+/// Answers a call of a retired key: key or trace. All others are answered `Answer::NotNow`.
 pub(crate) fn out_of_service<'o, H: TreeHash, C: Code>(
     signer: Retired<H, C>,
     call: &Call<'_>,

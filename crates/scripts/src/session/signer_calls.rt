@@ -1,12 +1,12 @@
 //! The calls of a key in service.
 
 ghost use Rattle.std.specs.Prelude.{◌≡◌};
-ghost use Rattle.histories.specs.Histories.{serving};
+ghost use Rattle.tree.specs.Meaning.{hash_of, code_of};
 ghost use Rattle.rules.specs.Rules.{sign_state, skip_answer, skip_state};
+ghost use Rattle.histories.specs.Histories.{serving};
+ghost use Rattle.signer.specs.Views.{signing_of};
 ghost use Rattle.scripts.specs.Calls.{said};
 ghost use Rattle.scripts.specs.Replies.{told, next, answered, output, sign_reply, state_of, reply, leaves};
-ghost use Rattle.signer.specs.Views.{signing_of};
-ghost use Rattle.tree.specs.Meaning.{hash_of, code_of};
 
 use crate::session::outputs::output_of;
 use crate::session::unchanged::{key, trace};
@@ -14,7 +14,9 @@ use crate::{Answer, Call, MOST_ROOM, Room, Session};
 use codes::Code;
 use hashes::TreeHash;
 use signer::Signer;
+use tree::rows::WORK;
 
+// Spends the next leaf on a stamp, and answers with the leaf and the release record. The output is zero before the call.
 fn sign<'o, H: TreeHash, C: Code>(
     signer: &mut Signer<H, C>,
     stamp: &[u8; 16],
@@ -26,7 +28,7 @@ fn sign<'o, H: TreeHash, C: Code>(
     ensures state { signing_of signer.new ≡ sign_state (code_of C.Code) (signing_of signer.old)
         stamp.now (output room.bytes) }
 {
-    let mut work = [0; 4096];
+    let mut work = [0; WORK];
     let out = output_of(out, room);
     match signer.sign(stamp, out, &mut work) {
         Ok((size, leaf)) => Answer::Signed {
@@ -37,6 +39,7 @@ fn sign<'o, H: TreeHash, C: Code>(
     }
 }
 
+// Makes `leaf` the next leaf, and answers with it.
 fn skip<H: TreeHash, C: Code>(signer: &mut Signer<H, C>, leaf: u16) -> Answer<'static>
     ensures answer { told result ≡ answered next (skip_answer (signing_of signer.old) leaf) }
     ensures state { signing_of signer.new ≡ skip_state (signing_of signer.old) leaf }
@@ -47,7 +50,7 @@ fn skip<H: TreeHash, C: Code>(signer: &mut Signer<H, C>, leaf: u16) -> Answer<'s
     }
 }
 
-/// Answers a call of a key in service.
+/// Answers a call of a key in service: key, sign, skip, retire or trace. All others are answered `Answer::NotNow`.
 pub(crate) fn in_service<'o, H: TreeHash, C: Code>(
     mut signer: Signer<H, C>,
     call: &Call<'_>,

@@ -1,17 +1,19 @@
 //! What a key answers in service and out of it.
 
 ghost use Rattle.std.specs.Prelude.{◌≡◌};
-ghost use Rattle.scripts.specs.Replies.{told, key_reply, trace_reply};
-ghost use Rattle.signer.specs.Views.{signing_of};
 ghost use Rattle.tree.specs.Meaning.{hash_of, code_of};
+ghost use Rattle.signer.specs.Views.{signing_of};
+ghost use Rattle.scripts.specs.Replies.{told, key_reply, trace_reply};
 
 use crate::session::outputs::output_of;
 use crate::{Answer, MOST_ROOM, Room};
 use codes::Code;
+use compare::REPORT;
 use hashes::TreeHash;
 use signer::Signer;
+use tree::rows::WORK;
 
-/// Answers with the key record, or with a refusal.
+/// Answers with the key record; refuses with 4, `Output`, a room that is shorter. Rule: `key_reply`.
 pub(crate) fn key<'o, H: TreeHash, C: Code>(
     signer: &Signer<H, C>,
     room: Room,
@@ -27,7 +29,8 @@ pub(crate) fn key<'o, H: TreeHash, C: Code>(
     }
 }
 
-/// Answers with a verdict and its report, or with a refusal.
+/// Compares a release record for a stamp with the ledger, and answers with a verdict and its report; refuses with 6, 7, 10, 11
+/// and 12 as the signer's trace. Rule: `trace_reply`.
 pub(crate) fn trace<H: TreeHash, C: Code>(
     signer: &Signer<H, C>,
     stamp: &[u8; 16],
@@ -36,8 +39,8 @@ pub(crate) fn trace<H: TreeHash, C: Code>(
     ensures { told result ≡ trace_reply (hash_of H.TreeHash) (code_of C.Code)
         (signing_of signer.now) stamp.now bytes.now }
 {
-    let mut work = [0; 4096];
-    let mut report = [0; 64];
+    let mut work = [0; WORK];
+    let mut report = [0; REPORT];
     match signer.trace(stamp, bytes, &mut report, &mut work) {
         Ok(numbers) => Answer::Verdict { numbers, report },
         Err(refusal) => Answer::Refused(refusal),

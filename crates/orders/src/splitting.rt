@@ -1,11 +1,14 @@
-//! Records one after the other.
+//! Where the first record ends in bytes that have more after it.
 
 ghost use Rattle.std.specs.Prelude.{◌≡◌, ◌≤◌, length};
 ghost use Rattle.orders.specs.Outcomes.{record_length, first_record, after_record};
 
 use records::split_header;
 
-// How long the first record in `bytes` is. Where not all of it is there, the rest is one record.
+// The bytes that a record has at least: length, kind, and 4 bytes of its body.
+const SHORTEST_RECORD: usize = 10;
+
+// How long the first record in `bytes` is, by its length field. Where not all of it is there, the rest is one record.
 fn record_length(bytes: &[u8]) -> usize
     ensures value { result ≡ record_length bytes.now }
     ensures within { result ≤ length bytes.now }
@@ -14,14 +17,15 @@ fn record_length(bytes: &[u8]) -> usize
         return bytes.len();
     };
     let named = header.length as usize;
-    if bytes.len() < 10 || named < 10 || named > bytes.len() {
+    if bytes.len() < SHORTEST_RECORD || named < SHORTEST_RECORD || named > bytes.len() {
         bytes.len()
     } else {
         named
     }
 }
 
-/// The first record in `bytes`, and what follows it.
+/// The first record in `bytes`, as long as its length field says, and what follows it. Where the field says fewer than 10
+/// bytes, or more than there are, all of `bytes` is one record; reading it refuses with 6, `Length`.
 pub fn split_record(bytes: &[u8]) -> (&[u8], &[u8])
     ensures first { result.0.now ≡ first_record bytes.now }
     ensures rest { result.1.now ≡ after_record bytes.now }
