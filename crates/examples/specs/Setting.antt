@@ -1,7 +1,15 @@
 -- What the examples are about: the practice hash, the three codes, and a signer grown from zeros.
-use Rattle.std.specs.Prelude.{ℕ, List, ◌∷◌, replicate}
+use Rattle.std.specs.Prelude.{◌≡◌, ℕ, List, ◌∷◌, replicate}
+use Rattle.hashes.specs.contracts.practice.PracticeChainHash.TheImpl as practice_chain
+use Rattle.hashes.specs.contracts.practice.PracticeTreeHash.TheImpl as practice_tree
+use Rattle.codes.specs.contracts.lamport_diffie.LamportDiffieCode.TheImpl as lamport_diffie
+use Rattle.codes.specs.contracts.widths.TwoBits as two_bits
+use Rattle.codes.specs.contracts.widths.TwoBitsDigitWidth.TheImpl as two_bits_width
+use Rattle.codes.specs.contracts.widths.FourBits as four_bits
+use Rattle.codes.specs.contracts.widths.FourBitsDigitWidth.TheImpl as four_bits_width
+use Rattle.codes.specs.contracts.winternitz.WinternitzCode.TheImpl as winternitz
 use Rattle.tree.specs.Known.{practice, lamport_diffie_code, winternitz2_code, winternitz4_code}
-use Rattle.tree.specs.Meaning.{Code}
+use Rattle.tree.specs.Meaning.{Code, hash_by, code_of}
 use Rattle.tree.specs.Rows.{masks_size}
 use Rattle.growth.specs.declared.origin.Origin.{Origin}
 use Rattle.rules.specs.Rules.{begin_rule, finish_state}
@@ -22,6 +30,17 @@ code2 = winternitz2_code
 -- 3, the Winternitz code with digits of 4 bits
 abbrev pub code3 : Code
 code3 = winternitz4_code
+
+-- the hash and the codes are those that their impls state
+pub record AsStated : Type 0 where
+  pub hash : practice ≡ hash_by practice_chain.ghosts practice_tree.ghosts
+  pub first : code1 ≡ code_of lamport_diffie.ghosts
+  pub second :
+      code2
+      ≡ code_of (winternitz.ghosts two_bits.the_row two_bits_width.ghosts two_bits_width.dict)
+  pub third :
+      code3
+      ≡ code_of (winternitz.ghosts four_bits.the_row four_bits_width.ghosts four_bits_width.dict)
 
 -- what is grown from at height h: seed, hash key and masks are zero
 abbrev pub origin : ℕ → Origin

@@ -2,9 +2,11 @@
 #![tactic(auto)]
 
 use codes::Winternitz4;
+use compare::REPORT;
 use hashes::Practice;
 use signer::{Maker, Plan, Signer};
 use telling::{tell_refusal, tell_verdict};
+use tree::rows::WORK;
 use verifier::{open, verify};
 
 mod tampering;
@@ -19,12 +21,6 @@ const CHAINS: usize = 35;
 
 // The bytes of a release record of this key, whose height is 2: 8 + 16 (CHAINS + 2).
 const RELEASE: usize = 600;
-
-// The bytes of the buffer in which the signer works.
-const WORK: usize = 4096;
-
-// The bytes of a report of trace.
-const REPORT: usize = 64;
 
 // The bytes of the room for the key record, which has 298.
 const ROOM: usize = 1024;

@@ -1,6 +1,6 @@
 //! What is printed of refusals, strings and verdicts.
 
-use crate::REPORT;
+use compare::REPORT;
 use records::Refusal;
 use strings::Hex;
 

@@ -1,13 +1,9 @@
 -- Orders one after the other: a stamp and a release record each.
 use Rattle.std.specs.Prelude.{ℕ, zero, suc, ◌<◌, ◌≤◌, Bool, if◌then◌else◌, ◌&&◌, List, [], ◌∷◌}
 use Rattle.std.specs.Prelude.{length, take, drop, Err, Result, ◌==◌, nat_le, nat_lt}
-use Rattle.records.specs.Records.{field}
+use Rattle.records.specs.Records.{field, shortest_record}
 use Rattle.records.specs.declared.refusal.Refusal.{Refusal}
 use Rattle.records.specs.declared.refusal.Refusal.TheVariants.{Length}
-
--- the bytes that a record has at least: length, kind, and 4 bytes of its body
-abbrev pub shortest_record : ℕ
-shortest_record = 10
 
 -- what the length field of the first record says, little-endian
 abbrev pub named_length : List ℕ → ℕ

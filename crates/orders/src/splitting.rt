@@ -3,10 +3,7 @@
 ghost use Rattle.std.specs.Prelude.{◌≡◌, ◌≤◌, length};
 ghost use Rattle.orders.specs.Outcomes.{record_length, first_record, after_record};
 
-use records::split_header;
-
-// The bytes that a record has at least: length, kind, and 4 bytes of its body.
-const SHORTEST_RECORD: usize = 10;
+use records::{layout, split_header};
 
 // How long the first record in `bytes` is, by its length field. Where not all of it is there, the rest is one record.
 fn record_length(bytes: &[u8]) -> usize
@@ -17,7 +14,7 @@ fn record_length(bytes: &[u8]) -> usize
         return bytes.len();
     };
     let named = header.length as usize;
-    if bytes.len() < SHORTEST_RECORD || named < SHORTEST_RECORD || named > bytes.len() {
+    if bytes.len() < layout::SHORTEST || named < layout::SHORTEST || named > bytes.len() {
         bytes.len()
     } else {
         named

@@ -24,6 +24,7 @@ returns c =
     record {
       count = refl;
       lawless = lawless;
+      stated = record { hash = refl; first = refl; second = refl; third = refl };
       worked =
           All-append Right hashing (coding ++ (measuring ++ (skipping ++ tracing))) hashing-right
           (All-append Right coding (measuring ++ (skipping ++ tracing)) coding-right
