@@ -1,6 +1,6 @@
 //! What a caller gives of a key.
 
-use tree::rows::MASKS;
+use growth::MASKS;
 
 /// What a key is planned and begun with: a struct of C, its fields in this order.
 #[repr(C)]

@@ -5,12 +5,13 @@ ghost use Rattle.std.specs.Prelude.{⊤};
 use crate::verdict;
 use anyhow::anyhow;
 use codes::Code;
+use growth::MASKS;
 use hashes::TreeHash;
 use records::{LONGEST_RELEASE, Refusal};
 use schemes::{Scheme, Task};
 use signer::{Maker, Plan, Signer};
 use std::fs;
-use tree::rows::{MASKS, WORK};
+use tree::rows::WORK;
 use verifier::{open, verify};
 
 // What a key is grown from, a leaf and a stamp; and then the key record that they give, and the release record of the leaf for

@@ -6,8 +6,7 @@ use Rattle.codes.specs.Codes.{checksum, ending}
 use Rattle.tree.specs.Known.{practice}
 use Rattle.tree.specs.Meaning.{Code}
 use Rattle.tree.specs.Nodes.{join}
-use Rattle.tree.specs.Rows.{masks_size}
-use Rattle.growth.specs.Grown.{secret}
+use Rattle.growth.specs.Grown.{masks_size, secret}
 use Rattle.records.specs.Records.{key_length, release_length, row_of}
 use Rattle.records.specs.Refusals.{refusal_number}
 use Rattle.records.specs.declared.refusal.Refusal.{Refusal}

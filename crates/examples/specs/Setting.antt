@@ -10,7 +10,7 @@ use Rattle.codes.specs.contracts.widths.FourBitsDigitWidth.TheImpl as four_bits_
 use Rattle.codes.specs.contracts.winternitz.WinternitzCode.TheImpl as winternitz
 use Rattle.tree.specs.Known.{practice, lamport_diffie_code, winternitz2_code, winternitz4_code}
 use Rattle.tree.specs.Meaning.{Code, hash_by, code_of}
-use Rattle.tree.specs.Rows.{masks_size}
+use Rattle.growth.specs.Grown.{masks_size}
 use Rattle.growth.specs.declared.origin.Origin.{Origin}
 use Rattle.rules.specs.Rules.{begin_rule, finish_state}
 use Rattle.rules.specs.States.{Signing}

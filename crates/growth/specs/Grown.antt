@@ -7,6 +7,11 @@ use Rattle.tree.specs.Nodes.{Parameters, parent_at}
 use Rattle.tree.specs.Trees.{chain_over, one_time_over, bottom_over, node_over}
 use Rattle.growth.specs.declared.origin.Origin.{Origin}
 
+-- the bytes of the masks of a key: a left and a right one for each of 16 levels, as many as there
+-- are at most
+abbrev pub masks_size : ℕ
+masks_size = 512
+
 -- the parameters of the tree, apart from its seed
 abbrev pub parameters : Origin → Parameters
 parameters o = record { hash_key = o.hash_key; masks = o.masks; height = o.height }

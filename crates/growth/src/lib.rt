@@ -7,6 +7,6 @@ mod origin;
 mod shown;
 mod stack;
 
-pub use origin::{Origin, Tree};
+pub use origin::{MASKS, Origin, Tree};
 pub use shown::sibling;
 pub use stack::NODES;

@@ -3,9 +3,12 @@
 ghost use Rattle.std.specs.Prelude.{◌≤◌};
 
 use std::marker::PhantomData;
-use tree::rows::MASKS;
 
 mod secrets;
+
+/// The bytes of the masks of a key: a left and a right one of 16 bytes for each of 16 levels, as
+/// many as there are at most.
+pub const MASKS: usize = 512;
 
 /// A seed, and the parameters of the tree that is grown from it. The tree has 2^height leaves.
 #[derive(Drop)]

@@ -1,8 +1,8 @@
 //! The nodes that are held while a tree is grown (the treehash stack).
 
-ghost use Rattle.std.specs.Prelude.{◌≡◌, ◌+◌, ◌^◌, ◌<◌};
+ghost use Rattle.std.specs.Prelude.{◌≡◌, ◌+◌, ◌^◌, ◌<◌, length};
 ghost use Rattle.tree.specs.Meaning.{hash_of, code_of};
-ghost use Rattle.growth.specs.Grown.{Holds, with_leaf};
+ghost use Rattle.growth.specs.Grown.{Holds, nodes_size, with_leaf};
 
 use crate::Tree;
 use codes::Code;
@@ -21,6 +21,7 @@ impl<H: TreeHash, C: Code> Tree<'_, H, C> {
     /// above, until a level holds none (`with_leaf` in specs/). The work buffer is used up.
     pub fn add_leaf(&self, grown: u16, nodes: &mut [u8; NODES], work: &mut [u8; WORK])
         requires { grown < 2 ^ self.now.origin.now.height }
+        ensures room { length nodes.new ≡ nodes_size }
         ensures after { nodes.new ≡ with_leaf (hash_of H.TreeHash) (code_of C.Code)
             self.now.origin.now grown nodes.old }
         ensures held { Holds (hash_of H.TreeHash) (code_of C.Code)

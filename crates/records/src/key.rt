@@ -4,7 +4,8 @@ ghost use Rattle.std.specs.Prelude.{◌≡◌, ◌+◌, ◌<◌, ◌≤◌, ◌^
 ghost use Rattle.records.specs.Keys.{key_of_height};
 ghost use Rattle.records.specs.Reads.{ReadsKeys};
 ghost use Rattle.records.specs.Records.{beside_masks, framed, key_bytes, hash_key_of, masks_of, root_of};
-ghost use Rattle.records.specs.Rules.{seen, open_rule};
+ghost use Rattle.records.specs.Records.{shortest_record};
+ghost use Rattle.records.specs.Rules.{seen, foreign, bad_height, open_rule};
 ghost use Rattle.records.specs.declared.kind.RecordKind.TheVariants as kind;
 
 use crate::header::{body_of, write_header};
@@ -13,6 +14,22 @@ use codes::Code;
 use hashes::ChainHash;
 use strings::put;
 use tree::Parameters;
+
+// Whether the record names another hash or another code than these.
+fn is_foreign<H: ChainHash, C: Code>(bytes: &[u8]) -> bool
+    requires { shortest_record ≤ length bytes.now }
+    ensures { result ≡ foreign H.ChainHash.NUMBER C.Code.NUMBER bytes.now }
+{
+    bytes[layout::HASH_NUMBER] != H::NUMBER || bytes[layout::CODE_NUMBER] != C::NUMBER
+}
+
+// Whether the height is outside 1 to 8, or the spare byte other than 0.
+fn has_bad_height(bytes: &[u8]) -> bool
+    requires { shortest_record ≤ length bytes.now }
+    ensures { result ≡ bad_height bytes.now }
+{
+    !(1..=8).contains(&bytes[layout::HEIGHT]) || bytes[layout::SPARE] != 0
+}
 
 /// Reads a key record for a verifier with hash `H` and code `C`, and answers its height
 /// (`open_rule` in specs/). Refuses, in this order: with 6, `Length`, and 7, `Kind`, as `body_of`;
@@ -26,13 +43,13 @@ pub fn read<H: ChainHash, C: Code>(bytes: &[u8]) -> Result<u8, Refusal>
         (seen (key_of_height bytes.now) result) }
 {
     body_of(bytes, RecordKind::Key)?;
-    if bytes[layout::HASH_NUMBER] != H::NUMBER || bytes[layout::CODE_NUMBER] != C::NUMBER {
+    if is_foreign::<H, C>(bytes) {
         return Err(Refusal::Parameters);
     }
-    let height = bytes[layout::HEIGHT];
-    if !(1..=8).contains(&height) || bytes[layout::SPARE] != 0 {
+    if has_bad_height(bytes) {
         return Err(Refusal::Height);
     }
+    let height = bytes[layout::HEIGHT];
     if bytes.len() != key_length::<C>(height) {
         return Err(Refusal::Layout);
     }

@@ -9,6 +9,8 @@ use codes::Code;
 /// The bytes of the longest release record: it has 256 chains and 8 siblings.
 pub const LONGEST_RELEASE: usize = 4232;
 
+const _: () = prove!(LONGEST_RELEASE == layout::ROW + 16 * (256 + 8));
+
 /// The bytes of the key record of a key of this height: 42, and 32 for each level of its tree and
 /// of the tree inside a leaf.
 pub fn key_length<C: Code>(height: u8) -> usize

@@ -2,7 +2,7 @@
 use Rattle.std.proofs.Common.{◌≡◌, ℕ, ◌+◌, ◌*◌, ◌≤◌, List, length, take, Ok, arith}
 use Rattle.std.proofs.lemmas.List.{length-take-le}
 use Rattle.tree.specs.Meaning.{Hash, Code}
-use Rattle.tree.specs.Rows.{masks_size}
+use Rattle.growth.specs.Grown.{masks_size}
 use Rattle.records.specs.Reads.{KeyParts}
 use Rattle.records.specs.Rules.{open_rule}
 use Rattle.records.proofs.Facts.{open-from}

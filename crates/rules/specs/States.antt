@@ -1,7 +1,7 @@
 -- What a maker and a signer hold, as values.
 use Rattle.std.specs.Prelude.{◌≡◌, ℕ, ◌≤◌, Bool, true, false, List, length, Some, None, Option}
 use Rattle.strings.specs.Strings.{Bytes, Str}
-use Rattle.tree.specs.Rows.{masks_size}
+use Rattle.growth.specs.Grown.{masks_size}
 use Rattle.growth.specs.declared.origin.Origin.{Origin}
 
 -- what begin may be given: a planned height, strings as seed and hash key, and the bitmasks, a left

@@ -3,7 +3,7 @@ use Rattle.std.specs.Prelude.{ℕ, if◌then◌else◌, ◌||◌, List, length, 
 use Rattle.std.specs.Prelude.{nat_lt, slice_index}
 use Rattle.std.specs.Option.{option_map}
 use Rattle.std.specs.Str.{bytes_eq}
-use Rattle.tree.specs.Rows.{masks_size}
+use Rattle.growth.specs.Grown.{masks_size}
 use Rattle.scripts.specs.Ascii.{number_sign}
 use Rattle.scripts.specs.Calls.{Said, said, read_call}
 use Rattle.scripts.specs.Hex.{hex_of}

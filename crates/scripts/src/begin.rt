@@ -4,10 +4,10 @@ ghost use Rattle.std.specs.Prelude.{◌≡◌};
 ghost use Rattle.records.specs.Rules.{seen};
 ghost use Rattle.scripts.specs.Begins.{start_of, start_rule, StartRefuses};
 
+use growth::MASKS;
 use records::Refusal;
 use schemes::{Scheme, UnknownScheme};
 use signer::Plan;
-use tree::rows::MASKS;
 
 /// The numbers of a hash and a code, and what a key is grown from. None of it is checked yet.
 #[derive(Clone, Copy)]

@@ -9,7 +9,7 @@ use Rattle.growth.proofs.Strings.{Strings}
 use Rattle.strings.proofs.Laws.{str-from}
 use Rattle.tree.specs.Laws.{HashLaws}
 use Rattle.tree.specs.Meaning.{Hash}
-use Rattle.tree.specs.Rows.{masks_size}
+use Rattle.growth.specs.Grown.{masks_size}
 use Rattle.rules.specs.States.{Begun}
 use Rattle.signer.specs.declared.signer.Signer.{Signer}
 

@@ -2,8 +2,7 @@
 
 ghost use Rattle.std.specs.Prelude.{◌≡◌, ℕ, ◌^◌, ◌<◌, ◌≤◌, true, length, get_or, None, slice_index, slice_index_or};
 ghost use Rattle.tree.specs.Meaning.{hash_by, code_of};
-ghost use Rattle.tree.specs.Rows.{masks_size};
-ghost use Rattle.growth.specs.Grown.{node_at};
+ghost use Rattle.growth.specs.Grown.{masks_size, node_at};
 ghost use Rattle.rules.specs.States.{empty_row};
 ghost use Rattle.histories.specs.Histories.{serving, HasLived};
 

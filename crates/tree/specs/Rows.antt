@@ -31,8 +31,3 @@ most_places = 256
 -- the bytes of a work buffer: a string for each place of a leaf
 abbrev pub work_size : ℕ
 work_size = 4096
-
--- the bytes of the masks of a key: a left and a right one for each of 16 levels, as many as there
--- are at most
-abbrev pub masks_size : ℕ
-masks_size = 512

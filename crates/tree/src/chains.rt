@@ -3,7 +3,7 @@
 ghost use Rattle.std.specs.Prelude.{◌≡◌, ℕ, ◌-◌, ◌*◌, ◌<◌, ◌≤◌, length};
 ghost use Rattle.strings.specs.Strings.{string_at};
 ghost use Rattle.tree.specs.Nodes.{raise, one_time};
-ghost use Rattle.tree.specs.Rows.{chain_in, most_places};
+ghost use Rattle.tree.specs.Rows.{chain_in, most_places, work_size};
 
 use crate::rows::{WORK, chain_in};
 use codes::Code;
@@ -47,7 +47,8 @@ pub fn one_time_strings<H: ChainHash, C: Code>(
     row: &mut [u8; WORK],
 )
     requires { 16 * C.Code.COUNT ≤ length shown.now }
-    ensures { (k : ℕ) → k < most_places →
+    ensures whole { length row.new ≡ work_size }
+    ensures strings { (k : ℕ) → k < most_places →
         string_at row.new k ≡ one_time (H.ChainHash.steps key.now) C.Code.COUNT C.Code.TOP
         (C.Code.digits stamp.now) (chain_in shown.now) k }
 {

@@ -1,4 +1,4 @@
-//! The row of strings of a release, and the sizes of the buffers that callers lend.
+//! The row of strings of a release, and the size of the work buffer that callers lend.
 
 ghost use Rattle.std.specs.Prelude.{◌≡◌, ◌+◌, ◌*◌, ◌<◌, ◌≤◌, length};
 ghost use Rattle.tree.specs.Rows.{chain_in, sibling_place, sibling_in, sibling_level};
@@ -9,10 +9,6 @@ use strings::string_at;
 /// The bytes of a work buffer: a string of 16 bytes for each place of a leaf, of which there are
 /// 2^8 at most.
 pub const WORK: usize = 4096;
-
-/// The bytes of the masks of a key: a left and a right one of 16 bytes for each of 16 levels, as
-/// many as there are at most.
-pub const MASKS: usize = 512;
 
 /// The string of chain number `chain`, counted from 0, in the row of a release.
 pub fn chain_in(row: &[u8], chain: usize) -> [u8; 16]

@@ -3,9 +3,8 @@
 
 ghost use Rattle.std.specs.Prelude.{◌≡◌, length};
 ghost use Rattle.tree.specs.Meaning.{hash_of};
-ghost use Rattle.tree.specs.Rows.{masks_size};
 ghost use Rattle.tree.specs.Views.{parameters_of};
-ghost use Rattle.growth.specs.Grown.{parameters, secret, chain_string};
+ghost use Rattle.growth.specs.Grown.{masks_size, parameters, secret, chain_string};
 
 use crate::Origin;
 use hashes::TreeHash;

@@ -14,12 +14,12 @@ use crate::ledger::Ledger;
 use crate::scratch::Scratch;
 use crate::{Maker, Plan, Signer};
 use codes::Code;
-use growth::{NODES, Origin, Tree};
+use growth::{MASKS, NODES, Origin, Tree};
 use hashes::TreeHash;
 use records::Refusal;
 use std::marker::PhantomData;
 use strings::string_at;
-use tree::rows::{MASKS, WORK};
+use tree::rows::WORK;
 
 impl<H: TreeHash, C: Code> Maker<H, C> {
     /// Begins a key of this plan: no leaf is in, and no node is held. Takes a seed of 16 bytes, a hash

@@ -17,4 +17,4 @@ returns g c =
     let held : ℕ → List ℕ = string_at c.one_time_strings.new.row in
     c.climb_path.ensures
     ∙ ap (climb parent (sibling_in g.C.Code.COUNT h row) h c.args.leaf)
-    (c.fold-start.ensures ∙ ap (λ n. node parent held h n 0) c.LEVELS.ensures ∙ node-moved parent held bottom h levels 0 0 (λ k lt. c.one_time_strings.ensures (0 * 2 ^ levels + k) (omega (arith, zero-mul (2 ^ levels), pow_mono g.met.C.Code.level_range.1))))
+    (c.fold-start.ensures ∙ ap (λ n. node parent held h n 0) c.LEVELS.ensures ∙ node-moved parent held bottom h levels 0 0 (λ k lt. c.one_time_strings.ensures.strings (0 * 2 ^ levels + k) (omega (arith, zero-mul (2 ^ levels), pow_mono g.met.C.Code.level_range.1))))
