@@ -1,4 +1,4 @@
-//! The cipher of section 5.1.
+//! The cipher of FIPS 197, section 5.1.
 
 ghost use Rattle.std.specs.Prelude.{◌≡◌};
 ghost use Rattle.aes128.specs.Cipher.{aes128_of};

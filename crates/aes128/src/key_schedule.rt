@@ -1,4 +1,4 @@
-//! The key expansion of section 5.2, one round key after the other.
+//! The key expansion of FIPS 197, section 5.2: one round key after the other.
 
 ghost use Rattle.std.specs.Prelude.{◌≡◌, ◌+◌, ◌<◌};
 ghost use Rattle.aes128.specs.Schedule.{rcon, key_of_round};

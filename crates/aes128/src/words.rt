@@ -25,14 +25,14 @@ pub(crate) fn from_columns(a: &[u8; 4], b: &[u8; 4], c: &[u8; 4], d: &[u8; 4]) -
     ]
 }
 
-/// RotWord of section 5.2: each byte moves one place to the left.
+/// RotWord of FIPS 197, section 5.2: each byte moves one place to the left.
 pub(crate) fn rot_word(w: &[u8; 4]) -> [u8; 4]
     ensures { result ≡ rot_word w.now }
 {
     [w[1], w[2], w[3], w[0]]
 }
 
-/// SubWord of section 5.2: each byte substituted.
+/// SubWord of FIPS 197, section 5.2: each byte substituted.
 pub(crate) fn sub_word(w: &[u8; 4]) -> [u8; 4]
     ensures { result ≡ sub_word w.now }
 {

@@ -46,9 +46,9 @@ abbrev pub three_reply : Result (ℕ × ℕ × ℕ) Failure → Reply
 three_reply = reply_of (λ x. x)
 
 -- what is left of a buffer: as it was, where there is an error
-abbrev pub left_by : {A E : Type 0} → Result A E → List ℕ → (A → List ℕ) → List ℕ
-left_by (Ok x) old new = new x
-left_by (Err e) old new = old
+abbrev pub bytes_after : {A E : Type 0} → Result A E → List ℕ → (A → List ℕ) → List ℕ
+bytes_after (Ok x) old new = new x
+bytes_after (Err e) old new = old
 
 -- an answer of verifier or signer; its refusal is a failure
 abbrev pub answered : {A : Type 0} → Result A Refusal → Result A Failure
@@ -69,7 +69,7 @@ numbered hash code by = by_scheme (scheme_numbered hash code) by
 -- what is left of a buffer by them: as it was, where a number is not known
 abbrev pub numbered_output : ℕ → ℕ → List ℕ → (Hash → Code → List ℕ) → List ℕ
 numbered_output hash code old by =
-    left_by (scheme_numbered hash code) old (λ s. by (hash_named s.hash) (code_named s.code))
+    bytes_after (scheme_numbered hash code) old (λ s. by (hash_named s.hash) (code_named s.code))
 
 -- what holds by them, or where a number is not known
 abbrev pub Numbered : Result Scheme UnknownScheme → Type 0 → (Hash → Code → Type 0) → Type 0
@@ -126,7 +126,7 @@ grown hash code source n level =
 -- and that node's string
 abbrev pub grown_node : Hash → Code → Source → ℕ → ℕ → List ℕ → List ℕ
 grown_node hash code source n level node =
-    left_by (begun source) node (λ m. held_string (held_rule (grows hash code n m) level) node)
+    bytes_after (begun source) node (λ m. held_string (held_rule (grows hash code n m) level) node)
 
 -- begin and finish
 abbrev pub finished : Hash → Code → Source → Result Signing Refusal
@@ -141,22 +141,22 @@ keyed hash code source n out =
 -- and what it leaves of the output
 abbrev pub keyed_output : Hash → Code → Source → ℕ → List ℕ → List ℕ
 keyed_output hash code source n out =
-    left_by (finished hash code source) out
+    bytes_after (finished hash code source) out
     (λ s. key_output hash code s (raise (key_output hash code s) n out))
 
 -- begin, finish and skip; where skip refuses, the next leaf stays
-abbrev pub serving : Hash → Code → Source → ℕ → Result Signing Refusal
-serving hash code source leaf = after (finished hash code source) (λ s. Ok (skip_state s leaf))
+abbrev pub served : Hash → Code → Source → ℕ → Result Signing Refusal
+served hash code source leaf = after (finished hash code source) (λ s. Ok (skip_state s leaf))
 
 -- begin, finish, skip, and sign: the record's length, and the leaf
 abbrev pub signed : Hash → Code → Source → ℕ → List ℕ → Result (ℕ × ℕ) Refusal
 signed hash code source leaf out =
-    after (serving hash code source leaf) (λ s. sign_answer code s out)
+    after (served hash code source leaf) (λ s. sign_answer code s out)
 
 -- and what it leaves of the output
 abbrev pub signed_output : Hash → Code → Source → ℕ → List ℕ → List ℕ → List ℕ
 signed_output hash code source leaf stamp out =
-    left_by (serving hash code source leaf) out (λ s. sign_output hash code s stamp out)
+    bytes_after (served hash code source leaf) out (λ s. sign_output hash code s stamp out)
 
 -- the state after the stamp `spent` is signed, into an output that is long enough for any record
 abbrev pub with_spent : Code → Signing → List ℕ → Signing
@@ -166,11 +166,11 @@ with_spent code s spent = sign_state code s spent (replicate longest_release 0)
 -- its two numbers
 abbrev pub traced : Hash → Code → Source → ℕ → List ℕ → List ℕ → List ℕ → Result (ℕ × ℕ × ℕ) Refusal
 traced hash code source leaf spent stamp bytes =
-    after (serving hash code source leaf)
+    after (served hash code source leaf)
     (λ s. trace_answer hash code (with_spent code s spent) stamp bytes)
 
 -- and what it leaves of the report
 abbrev pub traced_report : Hash → Code → Source → ℕ → List ℕ → List ℕ → List ℕ → List ℕ → List ℕ
 traced_report hash code source leaf spent stamp bytes report =
-    left_by (serving hash code source leaf) report
+    bytes_after (served hash code source leaf) report
     (λ s. trace_report hash code (with_spent code s spent) stamp bytes report)

@@ -5,7 +5,7 @@ ghost use Rattle.tree.specs.Meaning.{hash_of, code_of};
 ghost use Rattle.records.specs.Rules.{seen};
 ghost use Rattle.signer.specs.Views.{making_of, signing_of};
 ghost use Rattle.schemes.specs.Tasks.{Wrote};
-ghost use Rattle.bench_calls.specs.Lives.{begun, grows, finished, serving, verified, grown, grown_node, keyed, keyed_output};
+ghost use Rattle.bench_calls.specs.Lives.{begun, grows, finished, served, verified, grown, grown_node, keyed, keyed_output};
 ghost use Rattle.bench_calls.specs.Lives.{signed, signed_output, traced, traced_report};
 
 use crate::source::Source;
@@ -146,7 +146,7 @@ fn serve<H: TreeHash, C: Code>(
     leaf: u16,
     work: &mut [u8; WORK],
 ) -> Result<Signer<H, C>, Refusal>
-    ensures { seen signing_of result ≡ serving (hash_of H.TreeHash) (code_of C.Code)
+    ensures { seen signing_of result ≡ served (hash_of H.TreeHash) (code_of C.Code)
         source.now leaf }
 {
     let mut signer = finish::<H, C>(source, work)?;

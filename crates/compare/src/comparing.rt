@@ -41,7 +41,7 @@ impl<H: TreeHash, C: Code> Subject<'_, H, C> {
     /// at the first find: the node nearest the root that is equal on both sides while its masked
     /// children differ; the lowest chain where two different strings step to one, at the greatest
     /// height; the lowest chain whose string was not revealed. The siblings on the signer's side
-    /// are grown again from the seed. The work buffer is used up.
+    /// are grown again from the seed. The work buffer, 4,096 bytes, is used up.
     pub fn compare(&self, work: &mut [u8; WORK]) -> Comparison
         ensures root { result.root ≡ rebuilt (hash_of H.TreeHash) (code_of C.Code)
             (parameters (traced_of self.now).origin) self.now.leaf self.now.stamp.now

@@ -7,8 +7,8 @@ use Rattle.strings.proofs.Laws.{xor-str, numeral-str, string_at-str, piece-front
 use Rattle.tree.specs.Laws.{HashLaws}
 use Rattle.tree.specs.Meaning.{Hash, Code}
 use Rattle.tree.specs.Nodes.{raise, node, one_time, parent_at}
-use Rattle.growth.specs.Grown.{masks_size, secret, chain_string, bottom, parameters}
 use Rattle.tree.specs.Rows.{sibling_level}
+use Rattle.growth.specs.Grown.{masks_size, secret, chain_string, bottom, parameters}
 use Rattle.growth.specs.Shown.{sibling_of, shown_string}
 use Rattle.growth.specs.declared.origin.Origin.{Origin}
 

@@ -28,7 +28,7 @@ impl<H: TreeHash, C: Code> Tree<'_, H, C> {
     }
 
     /// The node of a leaf, 16 bytes: the root of the L-tree over its one-time strings. The work
-    /// buffer is used up.
+    /// buffer, 4,096 bytes, is used up.
     pub fn leaf_node(&self, leaf: u16, work: &mut [u8; WORK]) -> [u8; 16]
         ensures { result ≡ node_at (hash_of H.TreeHash) (code_of C.Code) self.now.origin.now
             self.now.origin.now.height leaf }
@@ -39,7 +39,8 @@ impl<H: TreeHash, C: Code> Tree<'_, H, C> {
     }
 
     /// The node at a level, counted from the root, and a position in it, 16 bytes: grown again from
-    /// the seed, with all leaves below it (`node_at` in specs/). The work buffer is used up.
+    /// the seed, with all leaves below it (`node_at` in specs/). The work buffer, 4,096 bytes, is
+    /// used up.
     pub fn grow_node(&self, level: usize, position: u16, work: &mut [u8; WORK]) -> [u8; 16]
         requires within { level ≤ self.now.origin.now.height }
         requires there { position < 2 ^ level }

@@ -1,6 +1,7 @@
 //! What a tree is grown from, and the tree.
 
 ghost use Rattle.std.specs.Prelude.{◌≤◌};
+ghost use Rattle.tree.specs.Nodes.{tallest};
 
 use std::marker::PhantomData;
 
@@ -35,5 +36,5 @@ pub struct Tree<'a, H, C> {
     /// The code of its leaves.
     pub code: PhantomData<C>,
     /// The height is 8 at most.
-    pub ghost tall: { origin.now.height ≤ 8 },
+    pub ghost tall: { origin.now.height ≤ tallest },
 }

@@ -25,7 +25,7 @@ impl<H: TreeHash, C: Code> Tree<'_, H, C> {
     /// The string at `place`, counted from 0, of a release of a leaf for a stamp, 16 bytes each
     /// (`shown_string` in specs/): of each chain the string at the height of the stamp's digit, and
     /// then the siblings of the authentication path, from the leaf's level up to level 1. The work
-    /// buffer is used up.
+    /// buffer, 4,096 bytes, is used up.
     pub fn shown_string(
         &self,
         leaf: u16,

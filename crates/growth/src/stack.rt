@@ -16,12 +16,13 @@ pub const NODES: usize = 144;
 
 impl<H: TreeHash, C: Code> Tree<'_, H, C> {
     /// Adds leaf number `grown` to a tree of which the leaves before it are in (treehash). String
-    /// number a of `nodes` is what is held at level a, or zero where nothing is: the new leaf's
-    /// node joins the one that is held at its level, as its right sibling, and their parent goes on
-    /// above, until a level holds none (`with_leaf` in specs/). The work buffer is used up.
+    /// number a of `nodes`, 144 bytes, is what is held at level a, or zero where nothing is: the
+    /// new leaf's node joins the one that is held at its level, as its right sibling, and their
+    /// parent goes on above, until a level holds none (`with_leaf` in specs/). The work buffer,
+    /// 4,096 bytes, is used up.
     pub fn add_leaf(&self, grown: u16, nodes: &mut [u8; NODES], work: &mut [u8; WORK])
         requires { grown < 2 ^ self.now.origin.now.height }
-        ensures room { length nodes.new ≡ nodes_size }
+        ensures long { length nodes.new ≡ nodes_size }
         ensures after { nodes.new ≡ with_leaf (hash_of H.TreeHash) (code_of C.Code)
             self.now.origin.now grown nodes.old }
         ensures held { Holds (hash_of H.TreeHash) (code_of C.Code)

@@ -29,8 +29,8 @@ abbrev pub answers_of : Tour → List (Result ℕ Refusal)
 answers_of tour = answers_to (answer_under tour.scheme tour.key) tour.orders.now
 
 -- the orders that are still to be handed out
-abbrev pub orders_left : Orders → List Order
-orders_left o = numbered (suc o.given) (answers_to (answer_under o.scheme o.key) o.rest.now)
+abbrev pub orders_to_come : Orders → List Order
+orders_to_come o = numbered (suc o.given) (answers_to (answer_under o.scheme o.key) o.rest.now)
 
 -- the key and the answers of a report; a refused key record leaves no order
 abbrev pub reported : Report → Reported

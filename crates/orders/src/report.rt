@@ -3,7 +3,7 @@
 ghost use Rattle.std.specs.Prelude.{Some};
 ghost use Rattle.std.specs.Fmt.{DisplaysOnOk};
 ghost use Rattle.orders.specs.Texts.{order_lines, report_text};
-ghost use Rattle.orders.specs.Views.{orders_left, reported};
+ghost use Rattle.orders.specs.Views.{orders_to_come, reported};
 
 use crate::{Orders, Tour};
 use records::Refusal;
@@ -21,7 +21,7 @@ pub enum Report<'a> {
 // A line for each order.
 fn write_orders<W: fmt::Write>(orders: Orders<'_>, f: &mut fmt::Formatter<W>) -> fmt::Result
     ensures { DisplaysOnOk W.write_str_gives f.old result
-        (Some (order_lines (orders_left orders.entry))) f.new }
+        (Some (order_lines (orders_to_come orders.entry))) f.new }
 {
     for order in orders {
         writeln!(f, "{order}")?;

@@ -21,7 +21,7 @@ pub struct Tour<'a> {
 
 impl<'a> Tour<'a> {
     ghost use Rattle.orders.specs.Texts.{numbered};
-    ghost use Rattle.orders.specs.Views.{summary_of, answers_of, orders_left};
+    ghost use Rattle.orders.specs.Views.{summary_of, answers_of, orders_to_come};
 
     /// What the key record names: the numbers of hash and code, and the height.
     pub fn summary(&self) -> KeySummary
@@ -32,7 +32,7 @@ impl<'a> Tour<'a> {
 
     /// The orders, from the first on. None is checked yet.
     pub fn orders(&self) -> Orders<'a>
-        ensures { orders_left result ≡ numbered 1 (answers_of self.now) }
+        ensures { orders_to_come result ≡ numbered 1 (answers_of self.now) }
     {
         Orders {
             scheme: self.scheme,
@@ -44,7 +44,7 @@ impl<'a> Tour<'a> {
 }
 
 /// The orders of a tour, handed out one by one, counted from 1: each is checked as it is handed out, by the hash and code that
-/// the key record names. Rule: `orders_left`.
+/// the key record names. Rule: `orders_to_come`.
 #[derive(Drop)]
 pub struct Orders<'a> {
     scheme: Scheme,
@@ -105,13 +105,13 @@ impl<'a> Orders<'a> {
 
 impl Iterator for Orders<'_> {
     ghost use Rattle.std.specs.Iterator.{YieldsFirst, item_count};
-    ghost use Rattle.orders.specs.Views.{orders_left};
+    ghost use Rattle.orders.specs.Views.{orders_to_come};
 
     type Item = Order;
 
-    ghost next_gives = { YieldsFirst orders_left };
+    ghost next_gives = { YieldsFirst orders_to_come };
 
-    ghost remaining = { item_count orders_left };
+    ghost remaining = { item_count orders_to_come };
 
     fn next(&mut self) -> Option<Order> {
         if self.rest.is_empty() {

@@ -1,5 +1,6 @@
 -- The refusals of reading: the condition of each, and the lists in their order.
 use Rattle.std.specs.Prelude.{ℕ, ◌^◌, ◌<◌, ◌≤◌, ◌≢◌, ◌⊎◌, List, [], ◌∷◌, ◌++◌, length}
+use Rattle.tree.specs.Nodes.{tallest}
 use Rattle.records.specs.Causes.{Cause, cause}
 use Rattle.records.specs.Kinds.{kind_number}
 use Rattle.records.specs.Records.{field, shortest_record, key_length, release_length}
@@ -21,7 +22,7 @@ WrongNumbers hash code bytes = (hash_number_of bytes ≢ hash) ⊎ (code_number_
 
 -- 9: a height outside 1 to 8, or a spare byte other than 0
 abbrev pub WrongHeight : List ℕ → Type 0
-WrongHeight bytes = (height_of bytes < 1) ⊎ ((8 < height_of bytes) ⊎ (spare_of bytes ≢ 0))
+WrongHeight bytes = (height_of bytes < 1) ⊎ ((tallest < height_of bytes) ⊎ (spare_of bytes ≢ 0))
 
 -- 10, of a key record: another byte count than one of its height has
 abbrev pub WrongKeyLength : ℕ → List ℕ → Type 0

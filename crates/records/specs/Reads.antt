@@ -1,12 +1,13 @@
 -- Bytes are read as a record exactly when writing that record yields them.
 use Rattle.std.specs.Prelude.{◌≡◌, ℕ, ◌+◌, ◌*◌, ◌^◌, ◌<◌, ◌≤◌, List, length, Ok, Result}
+use Rattle.tree.specs.Nodes.{tallest}
 use Rattle.records.specs.Keys.{Key, Shown}
 use Rattle.records.specs.Records.{key_bytes, release_bytes, hash_key_of, masks_of, root_of}
 use Rattle.records.specs.declared.refusal.Refusal.{Refusal}
 
 -- a key of height h under a code with these levels
 pub record KeyParts (levels h : ℕ) (hash_key masks root : List ℕ) : Type 0 where
-  pub tall : (1 ≤ h) × (h ≤ 8)
+  pub tall : (1 ≤ h) × (h ≤ tallest)
   pub keyed : length hash_key ≡ 16
   pub masked : length masks ≡ 32 * (h + levels)
   pub rooted : length root ≡ 16

@@ -2,6 +2,7 @@
 -- the value.
 use Rattle.std.specs.Prelude.{ℕ, ◌^◌, Bool, if◌then◌else◌, not, ◌||◌, List, length, drop, Ok, Err}
 use Rattle.std.specs.Prelude.{Result, ◌==◌, nat_le, nat_lt}
+use Rattle.tree.specs.Nodes.{tallest}
 use Rattle.records.specs.Keys.{Key, Shown}
 use Rattle.records.specs.Kinds.{kind_number}
 use Rattle.records.specs.Records.{field, shortest_record, key_length, release_length, leaf_of}
@@ -47,7 +48,7 @@ foreign hash code bytes =
 -- a height outside 1 to 8, or a spare byte other than 0
 abbrev pub bad_height : List ℕ → Bool
 bad_height bytes =
-    nat_lt (height_of bytes) 1 || (nat_lt 8 (height_of bytes) || not (spare_of bytes == 0))
+    nat_lt (height_of bytes) 1 || (nat_lt tallest (height_of bytes) || not (spare_of bytes == 0))
 
 -- a key record, read by a verifier with these hash and code numbers and levels: the key
 abbrev pub open_rule : ℕ → ℕ → ℕ → List ℕ → Result Key Refusal

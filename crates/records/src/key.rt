@@ -9,7 +9,7 @@ ghost use Rattle.records.specs.Rules.{seen, foreign, bad_height, open_rule};
 ghost use Rattle.records.specs.declared.kind.RecordKind.TheVariants as kind;
 
 use crate::header::{body_of, write_header};
-use crate::{RecordKind, Refusal, key_length, layout};
+use crate::{RecordKind, Refusal, TALLEST, key_length, layout};
 use codes::Code;
 use hashes::ChainHash;
 use strings::put;
@@ -28,7 +28,7 @@ fn has_bad_height(bytes: &[u8]) -> bool
     requires { shortest_record ≤ length bytes.now }
     ensures { result ≡ bad_height bytes.now }
 {
-    !(1..=8).contains(&bytes[layout::HEIGHT]) || bytes[layout::SPARE] != 0
+    !(1..=TALLEST).contains(&bytes[layout::HEIGHT]) || bytes[layout::SPARE] != 0
 }
 
 /// Reads a key record for a verifier with hash `H` and code `C`, and answers its height

@@ -6,10 +6,14 @@ ghost use Rattle.records.specs.Records.{key_length, release_length};
 use crate::layout;
 use codes::Code;
 
+/// The greatest height of a key: its tree has 256 leaves then.
+pub const TALLEST: u8 = 8;
+
 /// The bytes of the longest release record: it has 256 chains and 8 siblings.
 pub const LONGEST_RELEASE: usize = 4232;
 
-const _: () = prove!(LONGEST_RELEASE == layout::ROW + 16 * (256 + 8));
+// The bytes before the row, and a string for each chain and each sibling.
+const _: () = prove!(LONGEST_RELEASE == layout::ROW + 16 * (256 + TALLEST as usize));
 
 /// The bytes of the key record of a key of this height: 42, and 32 for each level of its tree and
 /// of the tree inside a leaf.

@@ -12,6 +12,6 @@ mod release;
 
 pub use header::{Header, body_of, split_header};
 pub use kind::RecordKind;
-pub use lengths::{LONGEST_RELEASE, key_length, release_length};
+pub use lengths::{LONGEST_RELEASE, TALLEST, key_length, release_length};
 pub use refusal::Refusal;
 pub use release::{Release, ReleaseRow, parts_of, read_release, write_release};

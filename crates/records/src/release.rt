@@ -2,6 +2,7 @@
 
 ghost use Rattle.std.specs.Prelude.{◌≡◌, ℕ, ◌+◌, ◌*◌, ◌<◌, ◌≤◌, ◌++◌, List, length, take, drop};
 ghost use Rattle.tree.specs.Rows.{row_from};
+ghost use Rattle.tree.specs.Nodes.{tallest};
 ghost use Rattle.records.specs.Reads.{ReadsReleases};
 ghost use Rattle.records.specs.Records.{release_length, release_bytes};
 ghost use Rattle.records.specs.Rules.{seen, parts_rule, release_rule};
@@ -49,7 +50,7 @@ pub fn parts_of<C: Code>(height: u8, body: &[u8]) -> Result<Release<'_>, Refusal
 /// `Layout`, and 11, `Leaf`, as `parts_of`.
 pub fn read_release<C: Code>(height: u8, bytes: &[u8]) -> Result<Release<'_>, Refusal>
     ensures answer { seen shown_by result ≡ release_rule C.Code.COUNT height bytes.now }
-    ensures reads { height ≤ 8 →
+    ensures reads { height ≤ tallest →
         ReadsReleases C.Code.COUNT height bytes.now (seen shown_by result) }
 {
     let body = body_of(bytes, RecordKind::Release)?;
@@ -65,7 +66,7 @@ pub trait ReleaseRow {
     /// The string at a place, counted from 0.
     ghost strings: { Self → ℕ → List ℕ };
 
-    /// String number `k`, 16 bytes. The work buffer is used up.
+    /// String number `k`, 16 bytes. The work buffer, 4,096 bytes, is used up.
     fn string(&self, k: usize, work: &mut [u8; WORK]) -> [u8; 16]
         requires { k < count self.now }
         ensures { result ≡ strings self.now k };
@@ -88,7 +89,7 @@ fn write_row<R: ReleaseRow>(out: &mut [u8], row: &R, count: usize, work: &mut [u
 
 /// Writes a release record of this leaf under a key of this height at the start of the output,
 /// which must have room for it (`release_bytes` in specs/); the bytes past it stay. The row is made
-/// string by string, in the output. The work buffer is used up.
+/// string by string, in the output. The work buffer, 4,096 bytes, is used up.
 pub fn write_release<C: Code, R: ReleaseRow>(
     out: &mut [u8],
     height: u8,

@@ -1,6 +1,7 @@
 -- The refusals of the signer's calls: the condition of each, and each call's list in its order.
 use Rattle.std.specs.Prelude.{◌≡◌, ℕ, ◌^◌, ◌<◌, ◌≢◌, ◌⊎◌, List, [], ◌∷◌, ◌++◌, length}
 use Rattle.tree.specs.Meaning.{Hash, Code}
+use Rattle.tree.specs.Nodes.{tallest}
 use Rattle.tree.specs.Rebuilt.{rebuilt}
 use Rattle.growth.specs.Grown.{parameters}
 use Rattle.records.specs.Causes.{Cause, cause}
@@ -11,7 +12,7 @@ use Rattle.rules.specs.States.{Making, Signing}
 
 -- 1: a plan's height outside 1 to 8
 abbrev pub WrongPlan : ℕ → Type 0
-WrongPlan height = (height < 1) ⊎ (8 < height)
+WrongPlan height = (height < 1) ⊎ (tallest < height)
 
 -- 2: all 2 ^ h leaves are in
 abbrev pub AllGrown : Making → Type 0

@@ -5,6 +5,7 @@ use Rattle.std.specs.Prelude.{Option, Result, ◌==◌, nat_lt, slice_index_or, 
 use Rattle.std.specs.Bool.{then_some}
 use Rattle.strings.specs.Strings.{string_at}
 use Rattle.tree.specs.Meaning.{Hash, Code}
+use Rattle.tree.specs.Nodes.{tallest}
 use Rattle.growth.specs.Grown.{nodes_size, node_at, filled, is_held, with_leaf}
 use Rattle.growth.specs.Shown.{shown_row}
 use Rattle.growth.specs.declared.origin.Origin.{Origin}
@@ -22,7 +23,7 @@ use Rattle.rules.specs.States.{Making, Signing, ledger_rows}
 
 -- a plan: the height, from 1 to 8
 abbrev pub plan_rule : ℕ → Result ℕ Refusal
-plan_rule height = if nat_lt height 1 || nat_lt 8 height then Err Plan else Ok height
+plan_rule height = if nat_lt height 1 || nat_lt tallest height then Err Plan else Ok height
 
 -- the maker that begin gives: no leaf is in, and nothing is held
 abbrev pub begin_rule : Origin → Making

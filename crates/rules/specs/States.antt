@@ -1,13 +1,14 @@
 -- What a maker and a signer hold, as values.
 use Rattle.std.specs.Prelude.{◌≡◌, ℕ, ◌≤◌, Bool, true, false, List, length, Some, None, Option}
 use Rattle.strings.specs.Strings.{Bytes, Str}
+use Rattle.tree.specs.Nodes.{tallest}
 use Rattle.growth.specs.Grown.{masks_size}
 use Rattle.growth.specs.declared.origin.Origin.{Origin}
 
 -- what begin may be given: a planned height, strings as seed and hash key, and the bitmasks, a left
 -- and a right one for each of 16 levels
 pub record Begun (o : Origin) : Type 0 where
-  pub tall : (1 ≤ o.height) × (o.height ≤ 8)
+  pub tall : (1 ≤ o.height) × (o.height ≤ tallest)
   pub seeded : Str o.seed
   pub keyed : Str o.hash_key
   pub masked : (length o.masks ≡ masks_size) × Bytes o.masks

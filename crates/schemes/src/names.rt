@@ -28,7 +28,7 @@ pub enum CodeName {
     Winternitz4,
 }
 
-// The hash with this number, 1 to 3; the error for any other. Rule: `hash_name`.
+/// The hash with this number, 1 to 3; the error for any other. Rule: `hash_name`.
 impl TryFrom<u8> for HashName {
     ghost use Rattle.std.specs.Prelude.{◌≡◌};
     ghost use Rattle.schemes.specs.Names.{hash_name};
@@ -47,7 +47,7 @@ impl TryFrom<u8> for HashName {
     }
 }
 
-// The code with this number, 1 to 3; the error for any other. Rule: `code_name`.
+/// The code with this number, 1 to 3; the error for any other. Rule: `code_name`.
 impl TryFrom<u8> for CodeName {
     ghost use Rattle.std.specs.Prelude.{◌≡◌};
     ghost use Rattle.schemes.specs.Names.{code_name};

@@ -8,7 +8,7 @@ use Rattle.std.specs.Option.{option_map}
 use Rattle.scripts.specs.Ascii.{space}
 use Rattle.scripts.specs.Digits.{number_from, at_most}
 use Rattle.scripts.specs.Hex.{hex_digit, byte_of, onto, hex_bytes, of_length, hex_of}
-use Rattle.scripts.specs.Words.{word_of, after_word, left_after, string_word}
+use Rattle.scripts.specs.Words.{word_of, after_word, rest_after, string_word}
 
 -- words
 
@@ -49,7 +49,7 @@ word-cut xs r is = rw is (split (nat_lt n (length xs)) refl)
         let all : length xs ≤ n = ltb-false n (length xs) e in
         (sym (word-space xs ∙ take_all n xs all), sym (after-space xs ∙ ap past (drop_all n xs all)))
 
-pub string-taken : (text : Option (List ℕ)) (word : List ℕ) (rest : Option (List ℕ)) → Some word ≡ option_map word_of text → rest ≡ left_after text → option_map (λ s. record { word = s; rest = rest }) (hex_of 16 word) ≡ string_word text
+pub string-taken : (text : Option (List ℕ)) (word : List ℕ) (rest : Option (List ℕ)) → Some word ≡ option_map word_of text → rest ≡ rest_after text → option_map (λ s. record { word = s; rest = rest }) (hex_of 16 word) ≡ string_word text
 string-taken (Some t) word rest e f = let h : word ≡ word_of t = cc in rw (h, f) refl
 string-taken None word rest e f = cc
 

@@ -43,9 +43,9 @@ string_word text =
     (λ t. option_map (λ s. record { word = s; rest = after_word t }) (hex_of 16 (word_of t)))
 
 -- what is left of a line
-abbrev pub left_of : Words → Option (List ℕ)
-left_of w = option_map (λ x. x.now) w.text
+abbrev pub rest_of : Words → Option (List ℕ)
+rest_of w = option_map (λ x. x.now) w.text
 
 -- what is left of it after a word
-abbrev pub left_after : Option (List ℕ) → Option (List ℕ)
-left_after text = and_then text after_word
+abbrev pub rest_after : Option (List ℕ) → Option (List ℕ)
+rest_after text = and_then text after_word

@@ -5,7 +5,7 @@ use compare::REPORT;
 use records::Refusal;
 
 /// How many levels a tree has from its root to its leaves, at most: 0 to 8.
-pub(crate) const LEVELS: usize = 9;
+pub(crate) const HELD_LEVELS: usize = 9;
 
 /// A node that a maker holds.
 #[derive(Clone, Copy)]
@@ -30,7 +30,7 @@ pub enum Answer<'o> {
     /// grow: how many leaves are in.
     Grown(u16),
     /// nodes: the nodes that are held, the treehash stack, lowest level number first.
-    Nodes([Option<Node>; LEVELS]),
+    Nodes([Option<Node>; HELD_LEVELS]),
     /// finish: the key is in service.
     Finished,
     /// key: the key record.

@@ -5,7 +5,7 @@ ghost use Rattle.std.specs.Option.{option_map};
 ghost use Rattle.scripts.specs.Calls.{said, alone, room_rule, record_rule};
 ghost use Rattle.scripts.specs.Calls.{read_key, read_sign, read_skip, read_trace, read_call};
 ghost use Rattle.scripts.specs.Sizes.{longest_line};
-ghost use Rattle.scripts.specs.Words.{left_of};
+ghost use Rattle.scripts.specs.Words.{rest_of};
 
 use crate::digits::number;
 use crate::words::Words;
@@ -38,14 +38,14 @@ pub enum Call<'a> {
 
 // A call that takes no word more.
 fn alone_call<'a>(call: Call<'a>, words: Words<'_>) -> Option<Call<'a>>
-    ensures { option_map said result ≡ alone (said call.entry) (left_of words.entry) }
+    ensures { option_map said result ≡ alone (said call.entry) (rest_of words.entry) }
 {
     words.text.is_none().then_some(call)
 }
 
 // ROOM, a number of at most `MOST_ROOM`, which may be left out.
 fn read_room(words: Words<'_>) -> Option<Room>
-    ensures { option_map (λ room. room.bytes) result ≡ room_rule (left_of words.entry) }
+    ensures { option_map (λ room. room.bytes) result ≡ room_rule (rest_of words.entry) }
 {
     match words.text {
         None => Some(Room { bytes: ROOM }),
@@ -58,7 +58,7 @@ fn read_room(words: Words<'_>) -> Option<Room>
 
 // key [ROOM]
 fn read_key(words: Words<'_>) -> Option<Call<'static>>
-    ensures { option_map said result ≡ read_key (left_of words.entry) }
+    ensures { option_map said result ≡ read_key (rest_of words.entry) }
 {
     let room = read_room(words)?;
     Some(Call::Key { room })
@@ -66,7 +66,7 @@ fn read_key(words: Words<'_>) -> Option<Call<'static>>
 
 // sign STAMP [ROOM]
 fn read_sign(mut words: Words<'_>) -> Option<Call<'static>>
-    ensures { option_map said result ≡ read_sign (left_of words.entry) }
+    ensures { option_map said result ≡ read_sign (rest_of words.entry) }
 {
     let stamp = words.string()?;
     let room = read_room(words)?;
@@ -75,7 +75,7 @@ fn read_sign(mut words: Words<'_>) -> Option<Call<'static>>
 
 // skip N, a number of two bytes
 fn read_skip(words: Words<'_>) -> Option<Call<'static>>
-    ensures { option_map said result ≡ read_skip (left_of words.entry) }
+    ensures { option_map said result ≡ read_skip (rest_of words.entry) }
 {
     let leaf = number(words.text?, u16::MAX as u32)?;
     Some(Call::Skip { leaf: leaf as u16 })
@@ -95,7 +95,7 @@ fn read_record<'a>(text: &[u8], store: &'a mut [u8; LONGEST_RECORD]) -> Option<&
 
 // trace STAMP RECORD
 fn read_trace<'a>(mut words: Words<'_>, store: &'a mut [u8; LONGEST_RECORD]) -> Option<Call<'a>>
-    ensures { option_map said result ≡ read_trace (left_of words.entry) }
+    ensures { option_map said result ≡ read_trace (rest_of words.entry) }
 {
     let stamp = words.string()?;
     let record = read_record(words.text?, store)?;
@@ -110,7 +110,7 @@ impl<'a> Call<'a> {
         words: Words<'_>,
         store: &'a mut [u8; LONGEST_RECORD],
     ) -> Option<Call<'a>>
-        ensures { option_map said result ≡ read_call name.now (left_of words.entry) }
+        ensures { option_map said result ≡ read_call name.now (rest_of words.entry) }
     {
         match name {
             "grow" => alone_call(Call::Grow, words),

@@ -2,7 +2,7 @@
 
 ghost use Rattle.std.specs.Prelude.{◌≡◌};
 ghost use Rattle.scripts.specs.Lines.{line_of, line_rule, read_begin};
-ghost use Rattle.scripts.specs.Words.{left_of};
+ghost use Rattle.scripts.specs.Words.{rest_of};
 
 use crate::words::Words;
 use crate::{Begin, Call, hex};
@@ -28,7 +28,7 @@ pub enum Line<'a> {
 
 // begin HASH CODE HEIGHT SEED HASHKEY MASKS
 fn read_begin(mut words: Words<'_>) -> Option<Begin>
-    ensures { result ≡ read_begin (left_of words.entry) }
+    ensures { result ≡ read_begin (rest_of words.entry) }
 {
     let hash = words.byte()?;
     let code = words.byte()?;

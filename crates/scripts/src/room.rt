@@ -11,5 +11,6 @@ pub const MOST_ROOM: usize = 65_536;
 pub struct Room {
     /// How many bytes it has: `MOST_ROOM` at most.
     pub bytes: u32,
+    /// No more than `MOST_ROOM`.
     pub ghost within: { bytes ≤ most_room },
 }

@@ -24,13 +24,13 @@ pub struct Words<'a> {
 }
 
 impl<'a> Words<'a> {
-    ghost use Rattle.scripts.specs.Words.{word_of, after_word, left_of, left_after, byte_word, string_word};
+    ghost use Rattle.scripts.specs.Words.{word_of, after_word, rest_of, rest_after, byte_word, string_word};
 
     /// The first word of a text, and what follows the space after it, where there is one. Rules: `word_of` and `after_word`.
     pub(crate) fn split(text: &'a [u8]) -> (&'a [u8], Words<'a>)
         requires { length text.now ≤ longest_line }
         ensures word { result.0.now ≡ word_of text.now }
-        ensures rest { left_of result.1 ≡ after_word text.now }
+        ensures rest { rest_of result.1 ≡ after_word text.now }
     {
         match first_space(text) {
             Some(at) => (
@@ -45,8 +45,8 @@ impl<'a> Words<'a> {
 
     // Takes the first word, where any is left.
     fn next(&mut self) -> Option<&'a [u8]>
-        ensures word { option_map (λ x. x.now) result ≡ option_map word_of (left_of self.old) }
-        ensures rest { left_of self.new ≡ left_after (left_of self.old) }
+        ensures word { option_map (λ x. x.now) result ≡ option_map word_of (rest_of self.old) }
+        ensures rest { rest_of self.new ≡ rest_after (rest_of self.old) }
     {
         let (word, rest) = Words::split(self.text?);
         *self = rest;
@@ -55,16 +55,16 @@ impl<'a> Words<'a> {
 
     /// Takes the first word, a number of one byte: decimal digits, and at most 255. Rule: `byte_word`.
     pub(crate) fn byte(&mut self) -> Option<u8>
-        ensures { option_map (λ n. record { word = n; rest = left_of self.new }) result
-            ≡ byte_word (left_of self.old) }
+        ensures { option_map (λ n. record { word = n; rest = rest_of self.new }) result
+            ≡ byte_word (rest_of self.old) }
     {
         Some(number(self.next()?, u8::MAX as u32)? as u8)
     }
 
     /// Takes the first word, a string: 16 bytes, as 32 hex digits. Rule: `string_word`.
     pub(crate) fn string(&mut self) -> Option<[u8; 16]>
-        ensures { option_map (λ s. record { word = s; rest = left_of self.new }) result
-            ≡ string_word (left_of self.old) }
+        ensures { option_map (λ s. record { word = s; rest = rest_of self.new }) result
+            ≡ string_word (rest_of self.old) }
     {
         hex::array(self.next()?)
     }

@@ -1,4 +1,4 @@
-//! The compression function of section 6.2.2: a hash value and a block to the next hash value.
+//! The compression function of FIPS 180-4, section 6.2.2: a hash value and a block to the next hash value.
 
 ghost use Rattle.std.specs.Prelude.{◌≡◌};
 ghost use Rattle.sha256.specs.Compress as spec;

@@ -14,7 +14,7 @@ pub(crate) const ROUNDS: usize = 64;
 /// The bytes of a hash value.
 pub(crate) const DIGEST: usize = 32;
 
-/// The initial hash value, section 5.3.3.
+/// The initial hash value, FIPS 180-4, section 5.3.3.
 pub(crate) const INITIAL: State = State {
     a: 0x6a09e667,
     b: 0xbb67ae85,
@@ -26,7 +26,7 @@ pub(crate) const INITIAL: State = State {
     h: 0x5be0cd19,
 };
 
-/// The constants of the rounds, in their order, section 4.2.2.
+/// The constants of the rounds, in their order, FIPS 180-4, section 4.2.2.
 pub(crate) const ROUND_WORDS: [u32; ROUNDS] = [
     0x428a2f98, 0x71374491, 0xb5c0fbcf, 0xe9b5dba5, 0x3956c25b, 0x59f111f1, 0x923f82a4, 0xab1c5ed5,
     0xd807aa98, 0x12835b01, 0x243185be, 0x550c7dc3, 0x72be5d74, 0x80deb1fe, 0x9bdc06a7, 0xc19bf174,

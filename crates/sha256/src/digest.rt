@@ -40,7 +40,7 @@ fn padded_length(rest: usize) -> usize
 }
 
 // `rest`, what is left of a message of `n` bytes after its whole blocks, with the padding of
-// section 5.1.1: `end` bytes, then zeros.
+// FIPS 180-4, section 5.1.1: `end` bytes, then zeros.
 fn pad(rest: &[u8], n: usize, end: usize) -> [u8; 2 * BLOCK]
     requires { (length rest.now ≡ n % 64) × (end ≡ length rest.now + spec.zeros n + 9) }
     ensures { take end result ≡ rest.now ++ spec.padding n }

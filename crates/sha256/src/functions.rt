@@ -1,5 +1,5 @@
-//! The functions on words that SHA-256 is made of, section 4.1.2. Each takes and gives words of 32
-//! bits.
+//! The functions on words that SHA-256 is made of (FIPS 180-4, section 4.1.2). Each takes and gives
+//! words of 32 bits.
 
 ghost use Rattle.std.specs.Prelude.{◌≡◌};
 ghost use Rattle.sha256.specs.Functions as spec;

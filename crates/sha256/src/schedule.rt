@@ -1,4 +1,4 @@
-//! The message schedule of section 6.2.2: a word for each round, from the 64 bytes of a block.
+//! The message schedule of FIPS 180-4, section 6.2.2: a word for each round, from the 64 bytes of a block.
 
 ghost use Rattle.std.specs.Prelude.{◌≡◌, ◌<◌, ◌≤◌, take};
 ghost use Rattle.sha256.specs.Compress.{words, next_word, schedule};

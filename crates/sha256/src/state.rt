@@ -1,7 +1,7 @@
 //! The hash value and the working variables of a compression.
 
-/// Eight words: the hash value between two blocks, or the working variables a to h of section 6.2.2
-/// between two rounds.
+/// Eight words: the hash value between two blocks, or the working variables a to h (FIPS 180-4,
+/// section 6.2.2) between two rounds.
 #[derive(Clone, Copy)]
 pub(crate) struct State {
     pub(crate) a: u32,

@@ -2,6 +2,7 @@
 
 ghost use Rattle.std.specs.Prelude.{ℕ, ◌^◌, ◌<◌, ◌≤◌, slice_index};
 ghost use Rattle.tree.specs.Meaning.{hash_by, code_of};
+ghost use Rattle.tree.specs.Nodes.{tallest};
 ghost use Rattle.growth.specs.Grown.{Holds};
 ghost use Rattle.histories.specs.Histories.{growing, HasLived};
 
@@ -25,13 +26,13 @@ pub struct Maker<H: TreeHash, C: Code> {
     nodes: [u8; NODES],
     hash: PhantomData<H>,
     code: PhantomData<C>,
-    ghost tall: { (1 ≤ origin.height) × (origin.height ≤ 8) },
+    ghost tall: { (1 ≤ origin.height) × (origin.height ≤ tallest) },
     ghost few: { grown ≤ 2 ^ origin.height },
-    // Each level holds what it should after that many leaves, and nothing else.
+    /// Each level holds what it should after that many leaves, and nothing else.
     pub ghost holds: { Holds (hash_by H.ChainHash H.TreeHash) (code_of C.Code) origin grown nodes },
     ghost bytes: { (i : ℕ) → (slice_index origin.seed i < 256)
         × (slice_index origin.hash_key i < 256) × (slice_index origin.masks i < 256) },
-    // Some begin and some history of calls lead to this key.
+    /// Some begin and some history of calls lead to this key.
     pub ghost lived: { HasLived (hash_by H.ChainHash H.TreeHash) (code_of C.Code)
         (growing (record { origin = origin; grown = grown; nodes = nodes })) },
 }

@@ -1,6 +1,7 @@
 //! The plan of a key.
 
 ghost use Rattle.std.specs.Prelude.{◌≤◌};
+ghost use Rattle.tree.specs.Nodes.{tallest};
 
 mod calls;
 
@@ -9,6 +10,6 @@ mod calls;
 #[derive(Clone, Copy)]
 pub struct Plan {
     height: u8,
-    // From 2 to 256 leaves.
-    pub ghost tall: { (1 ≤ height) × (height ≤ 8) },
+    /// The height lies from 1 to 8: from 2 to 256 leaves.
+    pub ghost tall: { (1 ≤ height) × (height ≤ tallest) },
 }

@@ -19,7 +19,7 @@ mod lending;
 pub struct Retired<H: TreeHash, C: Code> {
     /// The signer as it was when it was retired.
     pub(crate) signer: Signer<H, C>,
-    // Some begin and some history of calls lead to this retired signer.
+    /// Some begin and some history of calls lead to this retired signer.
     pub ghost lived: { HasLived (hash_by H.ChainHash H.TreeHash) (code_of C.Code)
         (retired (record { origin = signer.origin; root = signer.root; next = signer.next; rows = signer.ledger.rows })) },
 }

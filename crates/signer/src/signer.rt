@@ -2,6 +2,7 @@
 
 ghost use Rattle.std.specs.Prelude.{◌≡◌, ℕ, ◌^◌, ◌<◌, ◌≤◌, true, length, get_or, None, slice_index, slice_index_or};
 ghost use Rattle.tree.specs.Meaning.{hash_by, code_of};
+ghost use Rattle.tree.specs.Nodes.{tallest};
 ghost use Rattle.growth.specs.Grown.{masks_size, node_at};
 ghost use Rattle.rules.specs.States.{empty_row};
 ghost use Rattle.histories.specs.Histories.{serving, HasLived};
@@ -31,17 +32,19 @@ pub struct Signer<H: TreeHash, C: Code> {
     pub(crate) ledger: Ledger,
     pub(crate) hash: PhantomData<H>,
     pub(crate) code: PhantomData<C>,
-    pub ghost tall: { (1 ≤ origin.height) × (origin.height ≤ 8) },
+    /// The height lies from 1 to 8.
+    pub ghost tall: { (1 ≤ origin.height) × (origin.height ≤ tallest) },
+    /// The next leaf is one of the tree's, or all are spent.
     pub ghost within: { next ≤ 2 ^ origin.height },
-    // The root is that of the tree which the origin gives.
+    /// The root is that of the tree which the origin gives.
     pub ghost rooted: { root ≡ node_at (hash_by H.ChainHash H.TreeHash) (code_of C.Code) origin 0 0 },
     ghost sized: { (length origin.hash_key ≡ 16) × (length origin.masks ≡ masks_size) × (length root ≡ 16) },
-    // No leaf from the next one on has a stamp.
+    /// No leaf from the next one on has a stamp.
     pub ghost fresh: { (i : ℕ) → next ≤ i → empty_row (slice_index_or ledger.rows i None) ≡ true },
     ghost seeded: { length origin.seed ≡ 16 },
     ghost bytes: { (i : ℕ) → (slice_index origin.seed i < 256)
         × (slice_index origin.hash_key i < 256) × (slice_index origin.masks i < 256) },
-    // Some begin and some history of calls lead to this signer.
+    /// Some begin and some history of calls lead to this signer.
     pub ghost lived: { HasLived (hash_by H.ChainHash H.TreeHash) (code_of C.Code)
         (serving (record { origin = origin; root = root; next = next; rows = ledger.rows })) },
 }

@@ -4,6 +4,10 @@ use Rattle.std.specs.Prelude.{◌==◌, nat_lt}
 use Rattle.strings.specs.Strings.{xor, string_at, zero_string}
 use Rattle.tree.specs.Meaning.{Hash}
 
+-- the greatest height of a key's tree: it has 256 leaves then
+abbrev pub tallest : ℕ
+tallest = 8
+
 -- the parameters of a tree, which hold no secret
 pub record Parameters : Type 0 where
   -- the key, 16 bytes, under which chains step and nodes join

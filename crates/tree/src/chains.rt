@@ -37,9 +37,9 @@ pub fn raise_to_top<H: ChainHash, C: Code>(
     raise_chain::<H>(key, string, C::TOP - C::digit(stamp, place))
 }
 
-/// Fills the row with the one-time strings of a leaf (`one_time` in specs/). `shown` has a string
-/// of 16 bytes for each chain, at the height of the stamp's digit; each is raised to the top of its
-/// chain. Past the last chain the row is zero: the L-tree wants 2^levels strings.
+/// Fills the row, 4,096 bytes, with the one-time strings of a leaf (`one_time` in specs/). `shown`
+/// has a string of 16 bytes for each chain, at the height of the stamp's digit; each is raised to
+/// the top of its chain. Past the last chain the row is zero: the L-tree wants 2^levels strings.
 pub fn one_time_strings<H: ChainHash, C: Code>(
     key: &[u8; 16],
     stamp: &[u8; 16],
@@ -47,7 +47,7 @@ pub fn one_time_strings<H: ChainHash, C: Code>(
     row: &mut [u8; WORK],
 )
     requires { 16 * C.Code.COUNT ≤ length shown.now }
-    ensures whole { length row.new ≡ work_size }
+    ensures long { length row.new ≡ work_size }
     ensures strings { (k : ℕ) → k < most_places →
         string_at row.new k ≡ one_time (H.ChainHash.steps key.now) C.Code.COUNT C.Code.TOP
         (C.Code.digits stamp.now) (chain_in shown.now) k }

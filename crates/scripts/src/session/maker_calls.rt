@@ -9,7 +9,7 @@ ghost use Rattle.signer.specs.Views.{making_of};
 ghost use Rattle.scripts.specs.Calls.{said};
 ghost use Rattle.scripts.specs.Replies.{told, grown, answered, held_in, held_one, held_nodes, state_of, reply, leaves};
 
-use crate::answer::LEVELS;
+use crate::answer::HELD_LEVELS;
 use crate::{Answer, Call, Node, Session};
 use codes::Code;
 use hashes::TreeHash;
@@ -29,11 +29,11 @@ fn held_node<H: TreeHash, C: Code>(maker: &Maker<H, C>, level: u8) -> Option<Nod
 }
 
 // The nodes that a maker holds, the treehash stack, lowest level number first.
-fn held_nodes<H: TreeHash, C: Code>(maker: &Maker<H, C>) -> [Option<Node>; LEVELS]
+fn held_nodes<H: TreeHash, C: Code>(maker: &Maker<H, C>) -> [Option<Node>; HELD_LEVELS]
     ensures { flat_map held_in result ≡ held_nodes (making_of maker.now) }
 {
-    let mut nodes = [None; LEVELS];
-    for level in 0..LEVELS as u8 {
+    let mut nodes = [None; HELD_LEVELS];
+    for level in 0..HELD_LEVELS as u8 {
         nodes[level as usize] = held_node(maker, level);
     }
     nodes

@@ -8,7 +8,7 @@ ghost use Rattle.rules.specs.Rules.{plan_rule};
 ghost use Rattle.signer.specs.Views.{height_of_plan};
 
 use crate::Plan;
-use records::Refusal;
+use records::{Refusal, TALLEST};
 
 impl Plan {
     /// The plan of a key of this height, which has 2^height leaves. Refuses with 1, `Plan`, a height
@@ -17,7 +17,7 @@ impl Plan {
         ensures answer { seen height_of_plan result ≡ plan_rule height }
         ensures refuses { Refuses (plan_causes height) result }
     {
-        if !(1..=8).contains(&height) {
+        if !(1..=TALLEST).contains(&height) {
             return Err(Refusal::Plan);
         }
         Ok(Plan { height })

@@ -48,7 +48,7 @@ returns g c =
     let inv = c.loop-position.invariant in
     let put = c.put_string-2.ensures.after ∙ sym (carry-even (parent_at hash (parameters o)) level m c.loop-position.node nodes c.loop-position-test.false) in
     record {
-      room = ap length c.put_string-2.ensures.after ∙ length-put_string nodes level c.loop-position.node (omega arith) inv.2 ∙ inv.3;
+      long = ap length c.put_string-2.ensures.after ∙ length-put_string nodes level c.loop-position.node (omega arith) inv.2 ∙ inv.3;
       after = put ∙ inv.5;
       held = λ held. subst (Holds hash code o (c.args.grown + 1)) (sym put) (stays hash code o c.args.grown c.args.self.now.tall level m c.loop-position.node nodes (inv.4 held) inv.2 c.loop-position-test.false).1;
     }
