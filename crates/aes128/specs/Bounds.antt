@@ -4,14 +4,14 @@ use Rattle.std.specs.Prelude.{true, false, cond, List, map, slice_index, refl}
 use Rattle.std.proofs.Common.{mod-lt, arith}
 use Rattle.std.proofs.lemmas.Nat.{xor_lt}
 use Rattle.std.specs.List.{range_with_len}
-use Rattle.strings.specs.Strings.{Bytes, Str, xor}
+use Rattle.strings.specs.Strings.{IsBytes, IsString, xor}
 use Rattle.strings.proofs.Laws.{bytes-map, byte-below, xor_bytes, xor-str}
 use Rattle.aes128.specs.Field.{◌⊕◌, times_x, power_of_x, inverse, bit, from_bits, affine_bit, sub}
 use Rattle.aes128.specs.State.{at, state, column, sub_bytes, shift_rows, final_round}
 use Rattle.aes128.specs.Schedule.{rot_word, sub_word, rcon, temp, key_word, key_of_round}
 use Rattle.aes128.specs.Cipher.{rounds, aes128_of, aes_step, aes_pair}
 
-state-str : (f : ℕ → ℕ → ℕ) → ((r c : ℕ) → f r c < 256) → Str (state f)
+state-str : (f : ℕ → ℕ → ℕ) → ((r c : ℕ) → f r c < 256) → IsString (state f)
 state-str f h =
     let small = λ (i : ℕ). h (i % 4) (i / 4) in
     (refl, bytes-map (λ i. f (i % 4) (i / 4)) (range_with_len 0 16) small)
@@ -42,24 +42,24 @@ sub-below : (b : ℕ) → sub b < 256
 unfolding sub
 sub-below b = from_bits-below (affine_bit (inverse b)) (affine_bit-below (inverse b))
 
-temp-bytes : (i : ℕ) (w : List ℕ) → Bytes w → Bytes (temp i w)
+temp-bytes : (i : ℕ) (w : List ℕ) → IsBytes w → IsBytes (temp i w)
 temp-bytes i w b =
     let zeros : 0 < 256 = omega arith in
     let first = power_below (i / 4 - 1) in
-    let constant : Bytes (rcon (i / 4)) = (first, (zeros, (zeros, (zeros, tt)))) in
+    let constant : IsBytes (rcon (i / 4)) = (first, (zeros, (zeros, (zeros, tt)))) in
     let rotated = rot_word w in
-    let substituted : Bytes (sub_word rotated) =
+    let substituted : IsBytes (sub_word rotated) =
     bytes-map _ (range_with_len 0 4) (λ r. sub-below (slice_index rotated r)) in
-    elim (i % 4 == 0) as (λ t. Bytes (cond t (xor (sub_word rotated) (rcon (i / 4))) w)) [
+    elim (i % 4 == 0) as (λ t. IsBytes (cond t (xor (sub_word rotated) (rcon (i / 4))) w)) [
       | true ↦ xor_bytes (sub_word rotated) (rcon (i / 4)) substituted constant
       | false ↦ b
     ]
 
-column-bytes : (s : List ℕ) (c : ℕ) → Bytes s → Bytes (column s c)
+column-bytes : (s : List ℕ) (c : ℕ) → IsBytes s → IsBytes (column s c)
 column-bytes s c b =
     bytes-map (λ r. at s r c) (range_with_len 0 4) (λ r. byte-below s (4 * c + r) b)
 
-key_word-bytes : (key : List ℕ) → Bytes key → (i : ℕ) → Bytes (key_word key i)
+key_word-bytes : (key : List ℕ) → IsBytes key → (i : ℕ) → IsBytes (key_word key i)
 unfolding key_word
 key_word-bytes key b zero = column-bytes key 0 b
 key_word-bytes key b (suc zero) = column-bytes key 1 b
@@ -69,24 +69,24 @@ key_word-bytes key b (suc (suc (suc (suc i)))) =
     let last = key_word-bytes key b (suc (suc (suc i))) in
     xor_bytes (key_word key i) _ (key_word-bytes key b i) (temp-bytes (i + 4) _ last)
 
-key_of_round-str : (key : List ℕ) (n : ℕ) → Bytes key → Str (key_of_round key n)
+key_of_round-str : (key : List ℕ) (n : ℕ) → IsBytes key → IsString (key_of_round key n)
 unfolding key_of_round
 key_of_round-str key n b =
     let word : ℕ → List ℕ = λ c. key_word key (4 * n + c) in
     state-str _ (λ r c. byte-below (word c) r (key_word-bytes key b (4 * n + c)))
 
-aes-str : (k s : List ℕ) → Bytes k → Str (aes128_of k s)
+aes-str : (k s : List ℕ) → IsBytes k → IsString (aes128_of k s)
 unfolding aes128_of final_round
 aes-str k s b =
     let last = rounds k s 9 in
     let bytes = sub_bytes last in
-    let substituted : Str bytes = state-str _ (λ r c. sub-below (at last r c)) in
-    let shifted : Str (shift_rows bytes) =
+    let substituted : IsString bytes = state-str _ (λ r c. sub-below (at last r c)) in
+    let shifted : IsString (shift_rows bytes) =
     state-str _ (λ r c. byte-below bytes (4 * ((c + r) % 4) + r) substituted.1) in
     xor-str (shift_rows bytes) (key_of_round k 10) shifted (key_of_round-str k 10 b)
 
-pub step-str : (k s : List ℕ) → Str k → Str s → Str (aes_step k s)
+pub step-str : (k s : List ℕ) → IsString k → IsString s → IsString (aes_step k s)
 step-str k s a b = xor-str (aes128_of k s) s (aes-str k s a.1) b
 
-pub pair-str : (k l r : List ℕ) → Str k → Str l → Str r → Str (aes_pair k l r)
+pub pair-str : (k l r : List ℕ) → IsString k → IsString l → IsString r → IsString (aes_pair k l r)
 pair-str k l r a b c = step-str (aes_step k l) r (step-str k l a b) c

@@ -10,7 +10,7 @@ use Rattle.records.specs.Refusals.{refusal_number}
 use Rattle.records.specs.Rules.{after, open_rule}
 use Rattle.records.specs.declared.refusal.Refusal.{Refusal}
 use Rattle.verifier.specs.Rules.{verify_rule}
-use Rattle.rules.specs.Rules.{plan_rule, begin_rule, grow_state, held_rule, finish_state}
+use Rattle.rules.specs.Rules.{plan_rule, begin_state, grow_state, held_rule, finish_state}
 use Rattle.rules.specs.Rules.{key_answer, key_output, sign_answer, sign_state, sign_output}
 use Rattle.rules.specs.Rules.{skip_state, trace_answer, trace_report}
 use Rattle.rules.specs.States.{Making, Signing}
@@ -101,7 +101,7 @@ verified hash code key stamp bytes =
 -- plan and begin
 abbrev pub begun : Source → Result Making Refusal
 begun source =
-    after (plan_rule source.height) (λ height. Ok (begin_rule (origin_from source height)))
+    after (plan_rule source.height) (λ height. Ok (begin_state (origin_from source height)))
 
 -- n calls of grow
 unfoldable pub grows : Hash → Code → ℕ → Making → Making

@@ -6,7 +6,7 @@ use std::io::{self, ErrorKind, Read};
 #[derive(Drop)]
 pub(crate) struct Faltering<R> {
     inner: R,
-    left: u32,
+    to_give: u32,
     error: ErrorKind,
     interrupted: bool,
 }
@@ -16,7 +16,7 @@ impl<R: Read> Faltering<R> {
     pub(crate) fn new(inner: R, bytes: u32, error: ErrorKind) -> Faltering<R> {
         Faltering {
             inner,
-            left: bytes,
+            to_give: bytes,
             error,
             interrupted: false,
         }
@@ -29,10 +29,10 @@ impl<R: Read> Read for Faltering<R> {
         if self.interrupted {
             return Err(io::Error::from(ErrorKind::Interrupted));
         }
-        if self.left == 0 {
+        if self.to_give == 0 {
             return Err(io::Error::from(self.error));
         }
-        self.left -= 1;
+        self.to_give -= 1;
         let one = room.len().min(1);
         self.inner.read(&mut room[..one])
     }

@@ -3,13 +3,13 @@ use Rattle.std.specs.Prelude.{◌≡◌, ℕ, zero, suc, ◌+◌, ◌-◌, ◌*�
 use Rattle.std.specs.Prelude.{if◌then◌else◌, List, [], ◌∷◌, ◌++◌, map, nat_lt}
 use Rattle.std.specs.Prelude.{slice_index, slice_index_or}
 use Rattle.std.specs.List.{range_with_len}
-use Rattle.strings.specs.Strings.{Str}
+use Rattle.strings.specs.Strings.{IsString}
 
 -- the law of codes: of two different stamps, each has a digit smaller than the other's at the same
 -- place
 abbrev pub Apart : (List ℕ → ℕ → ℕ) → Type 0
 Apart digits =
-    (m n : List ℕ) → Str m → Str n → (m ≢ n) → (k : ℕ) × (digits m k < digits n k)
+    (m n : List ℕ) → IsString m → IsString n → (m ≢ n) → (k : ℕ) × (digits m k < digits n k)
 
 -- a width of digits: a whole number of them makes a byte, and more than one
 abbrev pub Width : ℕ → Type 0

@@ -15,7 +15,7 @@ use Rattle.std.proofs.ByRecursion.{All-get_or, All-append, All-from_get_or}
 use Rattle.std.proofs.lemmas.Bool.{cases_lt, cases_eq, cases_order, cond-true, cond-false}
 use Rattle.std.proofs.lemmas.Bool.{lt-ltb, eq-eqb, ne_eqb}
 use Rattle.std.proofs.lemmas.List.FromFn.{length-map-range_with_len, get_or-map-range_with_len}
-use Rattle.strings.specs.Strings.{Str}
+use Rattle.strings.specs.Strings.{IsString}
 use Rattle.codes.specs.Codes.{Width, bits, cut, lamport_diffie, checksum, ending, codeword}
 use Rattle.codes.specs.Codes.{winternitz}
 
@@ -209,9 +209,9 @@ bits-in-byte w a b d m v h =
     let from = begins w a b v h in
     let wide = width-pos w v in
     let byte : w * (a * q + b) / 8 ≡ a = omega (arith, from.0, from.1) in
-    let left : 8 - w - w * (a * q + b) % 8 ≡ w * (q - 1 - b) =
+    let shift : 8 - w - w * (a * q + b) % 8 ≡ w * (q - 1 - b) =
     omega (arith, v.0, from.0, from.1, mul-sub w (q - 1) b, mul-sub w q 1) in
-    (λ i. slice_index m (byte i) / 2 ^ left i % 2 ^ w)
+    (λ i. slice_index m (byte i) / 2 ^ shift i % 2 ^ w)
     ∙ sym (get_or-ending w q (slice_index m a) b d h)
 
 -- and so is the digit at its place in the cut stamp
@@ -235,11 +235,11 @@ same-endings w v m n e a h =
     ∙ digit-in-byte w a b n v h within)
 
 -- a stamp is known by its digits
-pub cut-injective : (w : ℕ) → Width w → (m n : List ℕ) → Str m → Str n →
+pub cut-injective : (w : ℕ) → Width w → (m n : List ℕ) → IsString m → IsString n →
     cut w m ≡ cut w n → m ≡ n
 cut-injective w v m n sm sn e =
     let q = 8 / w in
-    let small : (l : List ℕ) (a : ℕ) → Str l → a < 16 → slice_index l a < 2 ^ (w * q) =
+    let small : (l : List ℕ) (a : ℕ) → IsString l → a < 16 → slice_index l a < 2 ^ (w * q) =
     λ l a s h. rw v.0 (All-get_or (λ z. z < 256) l a 0 (omega (arith, s.0)) s.1) in
     ext_get_or 0 m n (sm.0 ∙ sym sn.0) (λ a h.
     let within : a < 16 = omega (arith, sm.0) in
@@ -310,7 +310,7 @@ winternitz-past w n m k h =
     get_or_past word k (2 ^ w - 1) past
 
 pub winternitz-apart : (w n : ℕ) → Width w → 128 / w * 2 ^ w < 2 ^ (w * n) →
-    (m m' : List ℕ) → Str m → Str m' → (m ≢ m') →
+    (m m' : List ℕ) → IsString m → IsString m' → (m ≢ m') →
     (k : ℕ) × (winternitz w n m k < winternitz w n m' k)
 winternitz-apart w n v room m m' s s' ne =
     let ds = cut w m in
@@ -351,7 +351,7 @@ bit-smaller m n ne =
     (⊎_elim (λ s. absurd (ne s)) inr)
     (compared 1 0 (cut 1 m) (cut 1 n) (cut-lengths 1 m n) (cut_below 1 m))
 
-pub lamport_diffie-apart : (m n : List ℕ) → Str m → Str n → (m ≢ n) →
+pub lamport_diffie-apart : (m n : List ℕ) → IsString m → IsString n → (m ≢ n) →
     (k : ℕ) × (lamport_diffie m k < lamport_diffie n k)
 lamport_diffie-apart m n sm sn ne =
     let differ : cut 1 m ≡ cut 1 n → ⊥ = λ e. ne (cut-injective 1 (refl, lit< tt) m n sm sn e) in

@@ -2,7 +2,7 @@
 
 ghost use Rattle.std.specs.Prelude.{◌≡◌, ℕ, ◌^◌, ◌<◌, ◌≤◌, List};
 ghost use Rattle.codes.specs.Codes.{Apart};
-ghost use Rattle.strings.specs.Strings.{Str};
+ghost use Rattle.strings.specs.Strings.{IsString};
 
 /// A code: which digit a stamp has at a place. Its meaning is its numbers and the function
 /// `digits`.
@@ -52,10 +52,10 @@ pub trait Code {
     ghost number_range: { NUMBER < 256 };
 
     /// No digit is above the largest.
-    ghost within: { (m : List ℕ) (k : ℕ) → Str m → digits m k ≤ TOP };
+    ghost within: { (m : List ℕ) (k : ℕ) → IsString m → digits m k ≤ TOP };
 
     /// Past the last digit the answer is the largest.
-    ghost past: { (m : List ℕ) (k : ℕ) → Str m → COUNT ≤ k → digits m k ≡ TOP };
+    ghost past: { (m : List ℕ) (k : ℕ) → IsString m → COUNT ≤ k → digits m k ≡ TOP };
 
     /// Of two different stamps, each has a digit smaller than the other's at the same place.
     ghost apart: { Apart digits };

@@ -1,9 +1,9 @@
 -- What is found, and what a report of it holds.
 use Rattle.std.proofs.Common.{◌≡◌, ℕ, ◌+◌, ◌*◌, ◌≤◌, List, length, take, drop, sym, ap, ◌∙◌}
-use Rattle.strings.specs.Strings.{Bytes, string_at, zero_string}
+use Rattle.strings.specs.Strings.{IsBytes, string_at, zero_string}
 use Rattle.tree.specs.Meaning.{Hash, Code}
 use Rattle.compare.specs.Sides.{Traced, our_chain, their_chain, our_node, their_node, left_input, right_input}
-use Rattle.compare.specs.Found.{NodeBreak, ChainBreak, node_report, chain_report, hidden_report}
+use Rattle.compare.specs.Found.{NodeBreak, ChainBreak, node_report, chain_report, unrevealed_report}
 use Rattle.compare.proofs.Lawful.{Lawful}
 use Rattle.compare.proofs.Nodes.{their-parent}
 use Rattle.compare.proofs.Rows.{four-strings, four-halves}
@@ -21,11 +21,11 @@ module _ (hash : Hash) (code : Code) (t : Traced) where
 
   module _ (lawful : Lawful hash code t.origin) (tall : t.origin.height ≤ 8) where
     -- the report of a string that was not revealed: the string
-    pub hidden-report : (k : ℕ) → string_at (hidden_report hash code t k) 0 ≡ our_chain hash code t k (code.digit t.stamp k)
-    hidden-report k =
+    pub unrevealed-report : (k : ℕ) → string_at (unrevealed_report hash code t k) 0 ≡ our_chain hash code t k (code.digit t.stamp k)
+    unrevealed-report k =
         (four-strings (our_chain hash code t k (code.digit t.stamp k)) zero_string zero_string zero_string (our-chain-str hash code t lawful tall k (code.digit t.stamp k)).0 zero-str.0 zero-str.0 zero-str.0).0
 
-    module _ (long : length t.row ≡ 16 * (code.count + t.origin.height)) (bytes : Bytes t.row) where
+    module _ (long : length t.row ≡ 16 * (code.count + t.origin.height)) (bytes : IsBytes t.row) where
       -- the report of a node: the inputs of both sides; pair takes both to one string, and they differ
       pub node-report : (a b : ℕ) → NodeBreak hash code t a b → (string_at (node_report hash code t a b) 0 ≡ left_input hash code t (our_node hash code t) a b) × (string_at (node_report hash code t a b) 1 ≡ right_input hash code t (our_node hash code t) a b) × (string_at (node_report hash code t a b) 2 ≡ left_input hash code t (their_node hash code t) a b) × (string_at (node_report hash code t a b) 3 ≡ right_input hash code t (their_node hash code t) a b)
       node-report a b break =

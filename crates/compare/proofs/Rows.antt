@@ -5,7 +5,7 @@ use Rattle.std.proofs.lemmas.Slice.Eq.{bytes_eq-Decides}
 use Rattle.std.proofs.lemmas.List.{ext_get_or, get_or-take, get_or-drop, take_at, take_all, take-take, drop_at, drop-drop, drop-take}
 use Rattle.std.proofs.lemmas.Bool.{cases_Bool}
 use Rattle.std.proofs.lemmas.Bool.Decides.{not_from_Decides}
-use Rattle.strings.specs.Strings.{Str, numeral, string_at}
+use Rattle.strings.specs.Strings.{IsString, numeral, string_at}
 use Rattle.strings.proofs.Laws.{numeral-str, numeral-injective}
 
 pub same_or_not : (s t : List ℕ) → (s ≡ t) ⊎ (s ≡ t → ⊥)
@@ -21,7 +21,7 @@ both-unless s t u v never =
     (same-unless s t (λ ne. never (λ both. ne both.0)), same-unless u v (λ ne. never (λ both. ne both.1)))
 
 -- for each string there is another
-pub another : (s : List ℕ) → (n : List ℕ) × (Str n) × (s ≡ n → ⊥)
+pub another : (s : List ℕ) → (n : List ℕ) × (IsString n) × (s ≡ n → ⊥)
 another s =
     ⊎_elim
     (λ (is : s ≡ numeral 0). (numeral 1, numeral-str 1, λ e. absurd (omega (arith, numeral-injective 0 1 (omega arith) (omega arith) (sym is ∙ e)))))

@@ -8,8 +8,8 @@ use Rattle.std.proofs.lemmas.Bool.{cases_lt, cases_order, false≢true}
 use Rattle.std.proofs.lemmas.Bool.Decides.{Decides-and, Decides-not, Decides-ltb, Decides-like}
 use Rattle.tree.specs.Meaning.{Hash, Code}
 use Rattle.compare.specs.Sides.{Traced}
-use Rattle.compare.specs.Search.{first_from, last_from, chosen, node_find_at, width, first_place, level_search, node_search, chain_find_at, height_search, chain_search, hidden_find_at, hidden_search, found}
-use Rattle.compare.specs.Found.{NodeBreak, ChainBreak, Hidden, node_report, chain_report, hidden_report, Found, node_break, chain_break, unrevealed, ours}
+use Rattle.compare.specs.Search.{first_from, last_from, chosen, node_find_at, width, first_place, level_search, node_search, chain_find_at, height_search, chain_search, unrevealed_find_at, unrevealed_search, found}
+use Rattle.compare.specs.Found.{NodeBreak, ChainBreak, UnrevealedChain, node_report, chain_report, unrevealed_report, Found, node_break, chain_break, unrevealed, ours}
 use Rattle.compare.specs.declared.verdict.Find.{Find}
 use Rattle.compare.specs.declared.verdict.Verdict.{Verdict}
 use Rattle.compare.specs.declared.verdict.Verdict.TheVariants.{Node, Chain, Unrevealed}
@@ -170,8 +170,8 @@ module _ (hash : Hash) (code : Code) (t : Traced) where
   abbrev chain_find : ℕ → ℕ → Find
   chain_find k e = record { first = k; second = e; report = chain_report hash code t k e }
 
-  abbrev hidden_find_of : ℕ → Find
-  hidden_find_of k = record { first = k; second = code.digit t.stamp k; report = hidden_report hash code t k }
+  abbrev unrevealed_find_of : ℕ → Find
+  unrevealed_find_of k = record { first = k; second = code.digit t.stamp k; report = unrevealed_report hash code t k }
 
   -- at one place
   node-found : (a b : ℕ) → a < h + code.levels → b / 2 ^ (a - h) ≡ t.leaf / 2 ^ (h - a) → MatchOption (node_find_at hash code t a b) (NodeBreak hash code t a b → ⊥) (λ x. NodeBreak hash code t a b × (x ≡ node_find a b))
@@ -185,8 +185,8 @@ module _ (hash : Hash) (code : Code) (t : Traced) where
   chain-found : (k e : ℕ) → k < code.count → code.digit t.stamp k ≤ e → e < code.top → MatchOption (chain_find_at hash code t k e) (ChainBreak hash code t k e → ⊥) (λ x. ChainBreak hash code t k e × (x ≡ chain_find k e))
   chain-found k e lt shown under = search rules
 
-  hidden_found : (k : ℕ) → k < code.count → MatchOption (hidden_find_at hash code t k) (Hidden code t k → ⊥) (λ x. Hidden code t k × (x ≡ hidden_find_of k))
-  hidden_found k lt = when-cases _ (hidden_find_of k) (Decides-like _ (λ p. record { chain = lt; below = p }) (λ u. u.below) (Decides-ltb _ _))
+  unrevealed_found : (k : ℕ) → k < code.count → MatchOption (unrevealed_find_at hash code t k) (UnrevealedChain code t k → ⊥) (λ x. UnrevealedChain code t k × (x ≡ unrevealed_find_of k))
+  unrevealed_found k lt = when-cases _ (unrevealed_find_of k) (Decides-like _ (λ p. record { chain = lt; below = p }) (λ u. u.below) (Decides-ltb _ _))
 
   -- the places of a level that are searched are those above the leaf or within it
   pub near-from : (a b : ℕ) → first_place hash code t a ≤ b → b < first_place hash code t a + width hash code t a → b / 2 ^ (a - h) ≡ t.leaf / 2 ^ (h - a)
@@ -226,14 +226,14 @@ module _ (hash : Hash) (code : Code) (t : Traced) where
   in-chains : ChainsOf (chain_search hash code t)
   in-chains = rows-found (ChainBreak hash code t) chain_find (λ e e'. e' ≤ e) (height_search hash code t) code.count (λ k e c. c.chain) in-chain
 
-  -- the lowest chain that is hidden: all are one row
-  abbrev HiddenOf : Option Find → Type 0
-  HiddenOf = RowOf (λ a. Hidden code t) (λ a. hidden_find_of) ◌≤◌ 0
+  -- the lowest chain that is unrevealed: all are one row
+  abbrev UnrevealedOf : Option Find → Type 0
+  UnrevealedOf = RowOf (λ a. UnrevealedChain code t) (λ a. unrevealed_find_of) ◌≤◌ 0
 
-  in-hidden : HiddenOf (hidden_search hash code t)
-  in-hidden = row-first (λ a. Hidden code t) (λ a. hidden_find_of) 0 0 code.count (hidden_find_at hash code t) (λ k u. let lt = u.chain in (omega arith, omega arith)) (λ k lo hi. hidden_found k (omega arith))
+  in-unrevealed : UnrevealedOf (unrevealed_search hash code t)
+  in-unrevealed = row-first (λ a. UnrevealedChain code t) (λ a. unrevealed_find_of) 0 0 code.count (unrevealed_find_at hash code t) (λ k u. let lt = u.chain in (omega arith, omega arith)) (λ k lo hi. unrevealed_found k (omega arith))
 
-  chosen-found : (o p q : Option Find) → NodesOf o → ChainsOf p → HiddenOf q → Found hash code t (chosen o p q)
+  chosen-found : (o p q : Option Find) → NodesOf o → ChainsOf p → UnrevealedOf q → Found hash code t (chosen o p q)
   chosen-found (Some x) p q n c u =
       subst (λ y. Found hash code t (Node y)) (sym n.is) (node_break n.row n.place (record { breaks = n.breaks; least = n.least }))
   chosen-found None (Some x) q n c u =
@@ -241,13 +241,13 @@ module _ (hash : Hash) (code : Code) (t : Traced) where
       (chain_break c.row c.place (record { no_node = n; breaks = c.breaks; least = c.least }))
   chosen-found None None (Some x) n c u =
       subst (λ y. Found hash code t (Unrevealed y)) (sym u.is)
-      (unrevealed u.place (record { no_node = n; no_chain = c; hides = u.breaks; least = u.least }))
-  chosen-found None None None n c u = ours (record { no_node = n; no_chain = c; no_hidden = u })
+      (unrevealed u.place (record { no_node = n; no_chain = c; shows = u.breaks; least = u.least }))
+  chosen-found None None None n c u = ours (record { no_node = n; no_chain = c; no_unrevealed = u })
 
   -- what the search finds is what trace is to find
   pub found_first : Found hash code t (found hash code t)
   unfolding found
-  found_first = chosen-found (node_search hash code t) (chain_search hash code t) (hidden_search hash code t) in-levels in-chains in-hidden
+  found_first = chosen-found (node_search hash code t) (chain_search hash code t) (unrevealed_search hash code t) in-levels in-chains in-unrevealed
 
   -- two verdicts that are both to be found are one
   found-one : {v w : Verdict} → Found hash code t v → Found hash code t w → v ≡ w
@@ -264,11 +264,11 @@ module _ (hash : Hash) (code : Code) (t : Traced) where
   found-one (unrevealed k f) (node_break a b f') = absurd (f.no_node a b f'.breaks)
   found-one (unrevealed k f) (chain_break k' e f') = absurd (f.no_chain k' e f'.breaks)
   found-one (unrevealed k f) (unrevealed k' f') =
-      let p : k ≡ k' = omega (arith, f.least k' f'.hides, f'.least k f.hides) in λ i. Unrevealed (hidden_find_of (p i))
-  found-one (unrevealed k f) (ours f') = absurd (f'.no_hidden k f.hides)
+      let p : k ≡ k' = omega (arith, f.least k' f'.shows, f'.least k f.shows) in λ i. Unrevealed (unrevealed_find_of (p i))
+  found-one (unrevealed k f) (ours f') = absurd (f'.no_unrevealed k f.shows)
   found-one (ours f) (node_break a b f') = absurd (f.no_node a b f'.breaks)
   found-one (ours f) (chain_break k e f') = absurd (f.no_chain k e f'.breaks)
-  found-one (ours f) (unrevealed k f') = absurd (f.no_hidden k f'.hides)
+  found-one (ours f) (unrevealed k f') = absurd (f.no_unrevealed k f'.shows)
   found-one (ours f) (ours f') = refl
 
   -- so it is the search that finds it

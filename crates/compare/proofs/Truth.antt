@@ -1,7 +1,7 @@
 -- Nothing is found of what the signer issued, and of nothing else that leads to the root.
 use Rattle.std.proofs.Common.{◌≡◌, ℕ, zero, suc, ◌+◌, ◌-◌, ◌*◌, ◌/◌, ◌^◌, ◌<◌, ◌≤◌, List, length, Some, None, Option, sym, refl, ap, ◌∙◌, subst, ⊎_elim, add-one, arith}
 use Rattle.std.proofs.lemmas.Bool.{cases_lt}
-use Rattle.strings.specs.Strings.{Str, xor, string_at}
+use Rattle.strings.specs.Strings.{IsString, xor, string_at}
 use Rattle.strings.proofs.Laws.{xor-injective}
 use Rattle.tree.specs.Meaning.{Hash, Code}
 use Rattle.tree.specs.Rebuilt.{rebuilt}
@@ -80,9 +80,9 @@ module _ (hash : Hash) (code : Code) (t : Traced) where
       same-unless (our_chain hash code t k e) (their_chain hash code t k e)
       (λ differ. none k e (record { chain = chain; shown = shown; under = omega arith; differ = differ; equal = our_step hash code t k e ∙ over ∙ sym (their-step hash code t k e shown) }))
 
-  module _ (lawful : Lawful hash code t.origin) (str : Str t.stamp) (o : Option (List ℕ)) (none : (k : ℕ) → k < code.count → digit k < revealed_height code o k → ⊥) where
+  module _ (lawful : Lawful hash code t.origin) (str : IsString t.stamp) (o : Option (List ℕ)) (none : (k : ℕ) → k < code.count → digit k < revealed_height code o k → ⊥) where
     -- where a row of the ledger has revealed each string of the stamp, no other stamp has been revealed: it has some digit above the stamp's
-    stamp-is : (m : List ℕ) → Str m → ((k : ℕ) → code.digit m k ≤ revealed_height code o k) → t.stamp ≡ m
+    stamp-is : (m : List ℕ) → IsString m → ((k : ℕ) → code.digit m k ≤ revealed_height code o k) → t.stamp ≡ m
     stamp-is m strm revealed =
         same-unless t.stamp m
         (λ isnt.
@@ -94,7 +94,7 @@ module _ (hash : Hash) (code : Code) (t : Traced) where
         (cases_lt k code.count))
 
   -- so the stamp is in that row
-  entered-is : Lawful hash code t.origin → Str t.stamp → (o : Option (List ℕ)) → ((m : List ℕ) → o ≡ Some m → Str m) → ((k : ℕ) → k < code.count → digit k < revealed_height code o k → ⊥) → o ≡ Some t.stamp
+  entered-is : Lawful hash code t.origin → IsString t.stamp → (o : Option (List ℕ)) → ((m : List ℕ) → o ≡ Some m → IsString m) → ((k : ℕ) → k < code.count → digit k < revealed_height code o k → ⊥) → o ≡ Some t.stamp
   entered-is lawful str (Some m) strs none = ap Some (sym (stamp-is lawful str (Some m) none m (strs m refl) (λ k. omega arith)))
   entered-is lawful str None strs none =
       let other = another t.stamp in
@@ -131,7 +131,7 @@ module _ (hash : Hash) (code : Code) (t : Traced) where
     no-chain : NoChain hash code t
     no-chain k e break = let shown = break.shown in break.differ (chain-shown chains k (e - digit k) e break.chain (omega arith))
 
-  module _ (lawful : Lawful hash code t.origin) (tall : t.origin.height ≤ 8) (str : Str t.stamp) where
+  module _ (lawful : Lawful hash code t.origin) (tall : t.origin.height ≤ 8) (str : IsString t.stamp) where
     -- where no node and no chain breaks, a row that leads to the root is the signer's own
     pub row-true : t.leaf < 2 ^ t.origin.height → length t.row ≡ 16 * (code.count + t.origin.height) → NoNode hash code t → NoChain hash code t → rebuilt hash code (parameters t.origin) t.leaf t.stamp t.row ≡ node_at hash code t.origin 0 0 → t.row ≡ shown_row hash code t.origin t.leaf t.stamp
     row-true placed long nodes breaks leads =
@@ -145,10 +145,10 @@ module _ (hash : Hash) (code : Code) (t : Traced) where
         shows-row hash code t lawful tall long chains (siblings-same nodes placed root)
 
     -- where nothing at all is found of it, the signer issued it: the stamp is in the ledger too
-    pub ours-true : t.leaf < 2 ^ t.origin.height → length t.row ≡ 16 * (code.count + t.origin.height) → ((m : List ℕ) → t.entered ≡ Some m → Str m) → Found hash code t Ours → rebuilt hash code (parameters t.origin) t.leaf t.stamp t.row ≡ node_at hash code t.origin 0 0 → (t.entered ≡ Some t.stamp) × (t.row ≡ shown_row hash code t.origin t.leaf t.stamp)
+    pub ours-true : t.leaf < 2 ^ t.origin.height → length t.row ≡ 16 * (code.count + t.origin.height) → ((m : List ℕ) → t.entered ≡ Some m → IsString m) → Found hash code t Ours → rebuilt hash code (parameters t.origin) t.leaf t.stamp t.row ≡ node_at hash code t.origin 0 0 → (t.entered ≡ Some t.stamp) × (t.row ≡ shown_row hash code t.origin t.leaf t.stamp)
     ours-true placed long strs found leads =
         let none = none_found found in
-        (entered-is lawful str t.entered strs (λ k chain below. none.no_hidden k (record { chain = chain; below = below })), row-true placed long none.no_node none.no_chain leads)
+        (entered-is lawful str t.entered strs (λ k chain below. none.no_unrevealed k (record { chain = chain; below = below })), row-true placed long none.no_node none.no_chain leads)
 
     -- where the signer issued it, nothing is found
     pub true-ours : t.entered ≡ Some t.stamp → t.row ≡ shown_row hash code t.origin t.leaf t.stamp → Found hash code t Ours
@@ -159,5 +159,5 @@ module _ (hash : Hash) (code : Code) (t : Traced) where
         (record {
           no_node = no_node low shows.0 shows.1;
           no_chain = no-chain low shows.0 shows.1;
-          no_hidden = λ k hidden. let same = ap (λ o. revealed_height code o k) entered in omega (arith, same, hidden.below);
+          no_unrevealed = λ k unrevealed. let same = ap (λ o. revealed_height code o k) entered in omega (arith, same, unrevealed.below);
         })

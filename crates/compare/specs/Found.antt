@@ -34,7 +34,7 @@ pub record ChainBreak (hash : Hash) (code : Code) (t : Traced) (k e : ℕ) : Typ
       ≡ hash.step t.origin.hash_key (their_chain hash code t k e)
 
 -- a chain whose digit for the stamp is below the revealed height
-pub record Hidden (code : Code) (t : Traced) (k : ℕ) : Type 0 where
+pub record UnrevealedChain (code : Code) (t : Traced) (k : ℕ) : Type 0 where
   pub chain : k < code.count
   pub below : code.digit t.stamp k < revealed_height code t.entered k
 
@@ -48,8 +48,8 @@ module _ (hash : Hash) (code : Code) (t : Traced) where
   NoChain = (k e : ℕ) → ChainBreak hash code t k e → ⊥
 
   -- there is no chain whose string was not revealed
-  abbrev pub NoHidden : Type 0
-  NoHidden = (k : ℕ) → Hidden code t k → ⊥
+  abbrev pub NoUnrevealed : Type 0
+  NoUnrevealed = (k : ℕ) → UnrevealedChain code t k → ⊥
 
   -- the report of a node: the signer's masked children, left and right, and then the record's
   abbrev pub node_report : ℕ → ℕ → List ℕ
@@ -65,8 +65,8 @@ module _ (hash : Hash) (code : Code) (t : Traced) where
       our_chain hash code t k e ++ (their_chain hash code t k e ++ (zero_string ++ zero_string))
 
   -- the report of a string that was not revealed: the signer's string; unused bytes are zero
-  abbrev pub hidden_report : ℕ → List ℕ
-  hidden_report k =
+  abbrev pub unrevealed_report : ℕ → List ℕ
+  unrevealed_report k =
       our_chain hash code t k (code.digit t.stamp k)
       ++ (zero_string ++ (zero_string ++ zero_string))
 
@@ -79,10 +79,10 @@ module _ (hash : Hash) (code : Code) (t : Traced) where
   chain_verdict k e = Chain (record { first = k; second = e; report = chain_report k e })
 
   -- the verdict on a string that was not revealed: its chain and height, and its report
-  abbrev pub hidden_verdict : ℕ → Verdict
-  hidden_verdict k =
+  abbrev pub unrevealed_verdict : ℕ → Verdict
+  unrevealed_verdict k =
       Unrevealed
-      (record { first = k; second = code.digit t.stamp k; report = hidden_report k })
+      (record { first = k; second = code.digit t.stamp k; report = unrevealed_report k })
 
 -- the node nearest the root (the least level number), and of those the least position
 pub record FirstNode (hash : Hash) (code : Code) (t : Traced) (a b : ℕ) : Type 0 where
@@ -96,17 +96,17 @@ pub record FirstChain (hash : Hash) (code : Code) (t : Traced) (k e : ℕ) : Typ
   pub least : (k' e' : ℕ) → ChainBreak hash code t k' e' → (k < k') ⊎ ((k ≡ k') × (e' ≤ e))
 
 -- no node and no chain, and the lowest chain whose string was not revealed
-pub record FirstHidden (hash : Hash) (code : Code) (t : Traced) (k : ℕ) : Type 0 where
+pub record FirstUnrevealed (hash : Hash) (code : Code) (t : Traced) (k : ℕ) : Type 0 where
   pub no_node : NoNode hash code t
   pub no_chain : NoChain hash code t
-  pub hides : Hidden code t k
-  pub least : (k' : ℕ) → Hidden code t k' → k ≤ k'
+  pub shows : UnrevealedChain code t k
+  pub least : (k' : ℕ) → UnrevealedChain code t k' → k ≤ k'
 
 -- none of the three
 pub record NoneFound (hash : Hash) (code : Code) (t : Traced) : Type 0 where
   pub no_node : NoNode hash code t
   pub no_chain : NoChain hash code t
-  pub no_hidden : NoHidden hash code t
+  pub no_unrevealed : NoUnrevealed hash code t
 
 -- the verdict on what is to be found first; where there is nothing to be found, the record is ours
 pub data Found (hash : Hash) (code : Code) (t : Traced) : Verdict → Type 0 where
@@ -114,8 +114,8 @@ pub data Found (hash : Hash) (code : Code) (t : Traced) : Verdict → Type 0 whe
       Found hash code t (node_verdict hash code t a b)
   chain_break : (k e : ℕ) → FirstChain hash code t k e →
       Found hash code t (chain_verdict hash code t k e)
-  unrevealed : (k : ℕ) → FirstHidden hash code t k →
-      Found hash code t (hidden_verdict hash code t k)
+  unrevealed : (k : ℕ) → FirstUnrevealed hash code t k →
+      Found hash code t (unrevealed_verdict hash code t k)
   ours : NoneFound hash code t → Found hash code t Ours
 
 -- the numbers that trace answers: the verdict, and where

@@ -58,15 +58,15 @@ step_find step k e s s' =
     (record { first = k; second = e; report = s ++ (s' ++ (zero_string ++ zero_string)) })
 
 -- the string s of chain k, whose digit is below the revealed height
-abbrev pub hidden_find : ℕ → ℕ → ℕ → List ℕ → Option Find
-hidden_find k digit revealed s =
+abbrev pub unrevealed_find : ℕ → ℕ → ℕ → List ℕ → Option Find
+unrevealed_find k digit revealed s =
     let report = s ++ (zero_string ++ (zero_string ++ zero_string)) in
     then_some (nat_lt digit revealed) (record { first = k; second = digit; report = report })
 
 -- the first kind of find that there is
 abbrev pub chosen : Option Find → Option Find → Option Find → Verdict
-chosen (Some f) chain hidden = Node f
-chosen None (Some f) hidden = Chain f
+chosen (Some f) chain string = Node f
+chosen None (Some f) string = Chain f
 chosen None None (Some f) = Unrevealed f
 chosen None None None = Ours
 
@@ -110,15 +110,15 @@ module _ (hash : Hash) (code : Code) (t : Traced) where
   chain_search = first_from height_search 0 code.count
 
   -- the find of chain k's string at the stamp's digit, where that was not revealed
-  abbrev pub hidden_find_at : ℕ → Option Find
-  hidden_find_at k =
-      hidden_find k (code.digit t.stamp k) (revealed_height code t.entered k)
+  abbrev pub unrevealed_find_at : ℕ → Option Find
+  unrevealed_find_at k =
+      unrevealed_find k (code.digit t.stamp k) (revealed_height code t.entered k)
       (our_chain hash code t k (code.digit t.stamp k))
 
   -- the find of the first chain that has such a string
-  abbrev pub hidden_search : Option Find
-  hidden_search = first_from hidden_find_at 0 code.count
+  abbrev pub unrevealed_search : Option Find
+  unrevealed_search = first_from unrevealed_find_at 0 code.count
 
   -- what trace finds
   unfoldable pub found : Verdict
-  found = chosen node_search chain_search hidden_search
+  found = chosen node_search chain_search unrevealed_search

@@ -6,8 +6,8 @@ ghost use Rattle.tree.specs.Meaning.{hash_of, code_of};
 ghost use Rattle.tree.specs.Nodes.{raise};
 ghost use Rattle.tree.specs.Rows.{most_places};
 ghost use Rattle.growth.specs.Grown.{leaf_string};
-ghost use Rattle.compare.specs.Search.{last_from, step_find, hidden_find, height_search};
-ghost use Rattle.compare.specs.Search.{hidden_find_at, chain_search, hidden_search};
+ghost use Rattle.compare.specs.Search.{last_from, step_find, unrevealed_find, height_search};
+ghost use Rattle.compare.specs.Search.{unrevealed_find_at, chain_search, unrevealed_search};
 ghost use Rattle.compare.specs.Sides.{revealed_height, our_chain, their_chain, their_one_time};
 ghost use Rattle.compare.specs.Views.{traced_of};
 
@@ -81,17 +81,17 @@ fn revealed_height<C: Code>(entered: &Option<[u8; 16]>, chain: usize) -> u8
 
 // The find of a signer's string, at the height of the stamp's digit, that was not revealed; none
 // where it was.
-fn find_hidden<C: Code>(
+fn find_unrevealed<C: Code>(
     entered: &Option<[u8; 16]>,
     chain: u16,
     digit: u8,
     string: &[u8; 16],
 ) -> Option<Find>
-    ensures { result ≡ hidden_find chain digit (revealed_height (code_of C.Code) entered.now chain)
+    ensures { result ≡ unrevealed_find chain digit (revealed_height (code_of C.Code) entered.now chain)
         string.now }
 {
-    let hides = digit < revealed_height::<C>(entered, chain as usize);
-    hides.then(|| Find {
+    let unrevealed = digit < revealed_height::<C>(entered, chain as usize);
+    unrevealed.then(|| Find {
         first: chain,
         second: digit as u16,
         report: four_strings(string, &ZERO, &ZERO, &ZERO),
@@ -106,7 +106,7 @@ pub(crate) struct Chain {
     /// The greatest height at which two different strings step to one.
     pub broken: Option<Find>,
     /// The signer's string at the height of the stamp's digit, where that was not revealed.
-    pub hidden: Option<Find>,
+    pub unrevealed: Option<Find>,
 }
 
 /// What comparing all chains of a leaf gives.
@@ -115,7 +115,7 @@ pub(crate) struct Chains {
     /// The break of the first chain that has one.
     pub broken: Option<Find>,
     /// The first chain whose string was not revealed.
-    pub hidden: Option<Find>,
+    pub unrevealed: Option<Find>,
 }
 
 impl<H: TreeHash, C: Code> Subject<'_, H, C> {
@@ -129,7 +129,7 @@ impl<H: TreeHash, C: Code> Subject<'_, H, C> {
             (code_of C.Code) (traced_of self.now) chain C.Code.TOP }
         ensures broken { result.broken ≡ height_search (hash_of H.TreeHash)
             (code_of C.Code) (traced_of self.now) chain }
-        ensures hidden { result.hidden ≡ hidden_find_at (hash_of H.TreeHash)
+        ensures unrevealed { result.unrevealed ≡ unrevealed_find_at (hash_of H.TreeHash)
             (code_of C.Code) (traced_of self.now) chain }
     {
         let place = chain as usize;
@@ -137,13 +137,13 @@ impl<H: TreeHash, C: Code> Subject<'_, H, C> {
         let origin = self.tree.origin;
         let ours = origin.chain_string::<H>(self.leaf, place, digit);
         let theirs = chain_in(self.row, place);
-        let hidden = find_hidden::<C>(&self.entered, chain, digit, &ours);
+        let unrevealed = find_unrevealed::<C>(&self.entered, chain, digit, &ours);
         let start = Sides { ours, theirs };
         let top = raise_both::<H>(&origin.hash_key, chain, digit, C::TOP, &start);
         Chain {
             top: top.sides,
             broken: top.find,
-            hidden,
+            unrevealed,
         }
     }
 
@@ -158,20 +158,20 @@ impl<H: TreeHash, C: Code> Subject<'_, H, C> {
             (code_of C.Code) (traced_of self.now) k }
         ensures broken { result.broken ≡ chain_search (hash_of H.TreeHash)
             (code_of C.Code) (traced_of self.now) }
-        ensures hidden { result.hidden ≡ hidden_search (hash_of H.TreeHash)
+        ensures unrevealed { result.unrevealed ≡ unrevealed_search (hash_of H.TreeHash)
             (code_of C.Code) (traced_of self.now) }
     {
         *ours = [0; WORK];
         *theirs = [0; WORK];
         let mut broken = None;
-        let mut hidden = None;
+        let mut unrevealed = None;
         for place in 0..C::COUNT {
             let chain = self.compare_chain(place as u16);
             put_string(ours, place, &chain.top.ours);
             put_string(theirs, place, &chain.top.theirs);
             broken = broken.or(chain.broken);
-            hidden = hidden.or(chain.hidden);
+            unrevealed = unrevealed.or(chain.unrevealed);
         }
-        Chains { broken, hidden }
+        Chains { broken, unrevealed }
     }
 }

@@ -24,10 +24,10 @@ pub struct Comparison {
 
 // The verdict on the first find that there is: a node, else a chain, else a string that was not
 // revealed; ours where there is none.
-fn choose(node: Option<Find>, chain: Option<Find>, hidden: Option<Find>) -> Verdict
-    ensures { result ≡ chosen node chain hidden }
+fn choose(node: Option<Find>, chain: Option<Find>, unrevealed: Option<Find>) -> Verdict
+    ensures { result ≡ chosen node chain unrevealed }
 {
-    match (node, chain, hidden) {
+    match (node, chain, unrevealed) {
         (Some(find), _, _) => Verdict::Node(find),
         (None, Some(find), _) => Verdict::Chain(find),
         (None, None, Some(find)) => Verdict::Unrevealed(find),
@@ -55,7 +55,7 @@ impl<H: TreeHash, C: Code> Subject<'_, H, C> {
         let chains = self.compare_chains(work, &mut theirs);
         let leaf_node = self.fold_both(work, &mut theirs);
         let root = self.climb_to_root(&leaf_node.sides, work);
-        let verdict = choose(root.find.or(leaf_node.find), chains.broken, chains.hidden);
+        let verdict = choose(root.find.or(leaf_node.find), chains.broken, chains.unrevealed);
         let root = root.sides.theirs;
         Comparison { root, verdict }
     }

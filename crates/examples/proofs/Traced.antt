@@ -10,7 +10,7 @@ use Rattle.records.specs.Records.{release_bytes, row_of}
 use Rattle.verifier.specs.Rules.{verify_rule}
 use Rattle.records.specs.Rules.{after}
 use Rattle.compare.specs.Found.{verdict_numbers, verdict_report}
-use Rattle.compare.specs.Search.{first_from, last_from, level_search, chain_search, hidden_search, chosen, found}
+use Rattle.compare.specs.Search.{first_from, last_from, level_search, chain_search, unrevealed_search, chosen, found}
 use Rattle.compare.specs.Sides.{Traced, our_node, their_node}
 use Rattle.compare.specs.declared.verdict.Find.{Find}
 use Rattle.compare.specs.declared.verdict.Verdict.{Verdict}
@@ -19,7 +19,7 @@ use Rattle.rules.specs.Rules.{leaves_more, key_record, release_record, sign_stat
 use Rattle.rules.specs.States.{Signing}
 use Rattle.compare.proofs.Agreeing.{SameNode}
 use Rattle.tree.specs.Known.{practice}
-use Rattle.examples.specs.Setting.{string, code1, origin}
+use Rattle.examples.specs.Setting.{string, lamport_diffie_code, origin}
 use Rattle.examples.specs.Examples.{Outcome, gives, Right, answered_three, new, output, written, signed, changed, shown, one_changed, two_changed, verdict, reported, tracing}
 use Rattle.examples.proofs.Agreed.{searched-below}
 
@@ -37,7 +37,7 @@ signer = record { origin = origin 1; root = string 0; next = 1; rows = set (repl
 
 signed_is : signed ≡ signer
 unfolding begun signer
-signed_is = ap (λ s. sign_state code1 s (string 0) output) new_is
+signed_is = ap (λ s. sign_state lamport_diffie_code s (string 0) output) new_is
 
 -- the record of the stamp of zeros: string k is k where the digit is 0, half of it where the digit is 1, and the sibling last
 shown_string : ℕ → List ℕ
@@ -51,12 +51,12 @@ zeros = release_bytes 0 row
 
 zeros-is : written (string 0) ≡ zeros
 unfolding zeros row shown_string begun numeral raise node shown_row release_record
-zeros-is = ap (λ s. sign_output practice code1 s (string 0) output) new_is
+zeros-is = ap (λ s. sign_output practice lamport_diffie_code s (string 0) output) new_is
 
 -- the record of the stamp whose first bit is 1: string 1 is another
 high_is : written (string 0x80) ≡ changed 1 1 zeros
 unfolding zeros row shown_string begun numeral raise node shown_row release_record
-high_is = ap (λ s. sign_output practice code1 s (string 0x80) output) new_is
+high_is = ap (λ s. sign_output practice lamport_diffie_code s (string 0x80) output) new_is
 
 -- two rows that are computed alike are alike at each place
 alike : (f g : ℕ → List ℕ) (n : ℕ) → map f (range_with_len 0 n) ≡ map g (range_with_len 0 n) → (k : ℕ) → k < n → f k ≡ g k
@@ -64,14 +64,14 @@ alike f g n same k h =
     sym (get_or-map-range_with_len f 0 n k k [] h (zero-add k)) ∙ ap (λ s. get_or s k []) same ∙ get_or-map-range_with_len g 0 n k k [] h (zero-add k)
 
 -- the sibling of leaf 0
-beside : node_at practice code1 (origin 1) 1 1 ≡ string 128
+beside : node_at practice lamport_diffie_code (origin 1) 1 1 ≡ string 128
 unfolding numeral raise node
 beside = refl
 
 -- what trace answers and reports of a record at leaf 0
 record Traces (stamp bytes : List ℕ) (v : Verdict) : Type 0 where
-  answers : trace_answer practice code1 signer stamp bytes ≡ Ok (verdict_numbers 0 v)
-  reports : (report : List ℕ) → trace_report practice code1 signer stamp bytes report ≡ verdict_report v
+  answers : trace_answer practice lamport_diffie_code signer stamp bytes ≡ Ok (verdict_numbers 0 v)
+  reports : (report : List ℕ) → trace_report practice lamport_diffie_code signer stamp bytes report ≡ verdict_report v
 
 -- a trace at leaf 0 from what is computed: what verify answers; that both sides agree l levels below the leaf's node; and
 -- what is found further below and along the chains
@@ -80,38 +80,38 @@ module _ (stamp bytes : List ℕ) where
   subject = traced_by signer stamp 0 bytes
 
   abbrev Verified : Type 0
-  Verified = verify_rule practice code1 (own_key practice code1 signer) stamp bytes ≡ Ok 0
+  Verified = verify_rule practice lamport_diffie_code (own_key practice lamport_diffie_code signer) stamp bytes ≡ Ok 0
 
   abbrev Agree : ℕ → Type 0
-  Agree l = map (our_node practice code1 subject (1 + l)) (range_with_len 0 (2 ^ l)) ≡ map (their_node practice code1 subject (1 + l)) (range_with_len 0 (2 ^ l))
+  Agree l = map (our_node practice lamport_diffie_code subject (1 + l)) (range_with_len 0 (2 ^ l)) ≡ map (their_node practice lamport_diffie_code subject (1 + l)) (range_with_len 0 (2 ^ l))
 
   abbrev Finds : ℕ → Verdict → Type 0
-  Finds l v = chosen (first_from (level_search practice code1 subject) (1 + l) (8 - l)) (chain_search practice code1 subject) (hidden_search practice code1 subject) ≡ v
+  Finds l v = chosen (first_from (level_search practice lamport_diffie_code subject) (1 + l) (8 - l)) (chain_search practice lamport_diffie_code subject) (unrevealed_search practice lamport_diffie_code subject) ≡ v
 
   module _ (l : ℕ) (within : l ≤ 8) (verified : Verified) (sibling : string_at (row_of bytes) 256 ≡ string 128) (agree : Agree l) where
-    siblings : (e : ℕ) → e < 1 → our_node practice code1 subject (1 - e) (sibling_of (0 / 2 ^ e)) ≡ string_at (row_of bytes) (256 + e)
+    siblings : (e : ℕ) → e < 1 → our_node practice lamport_diffie_code subject (1 - e) (sibling_of (0 / 2 ^ e)) ≡ string_at (row_of bytes) (256 + e)
     unfolding signer
     siblings zero h = beside ∙ sym sibling
     siblings (suc e) h = absurd (omega arith)
 
-    level : (k : ℕ) → k < 2 ^ l → SameNode practice code1 subject (1 + l) (0 * 2 ^ l + k)
+    level : (k : ℕ) → k < 2 ^ l → SameNode practice lamport_diffie_code subject (1 + l) (0 * 2 ^ l + k)
     level k h =
         let place : k ≡ 0 * 2 ^ l + k = omega arith in
-        subst (SameNode practice code1 subject (1 + l)) place
-        (alike (our_node practice code1 subject (1 + l)) (their_node practice code1 subject (1 + l)) (2 ^ l) agree k h)
+        subst (SameNode practice lamport_diffie_code subject (1 + l)) place
+        (alike (our_node practice lamport_diffie_code subject (1 + l)) (their_node practice lamport_diffie_code subject (1 + l)) (2 ^ l) agree k h)
 
-    found-is : (v : Verdict) → Finds l v → found practice code1 subject ≡ v
+    found-is : (v : Verdict) → Finds l v → found practice lamport_diffie_code subject ≡ v
     unfolding signer found
     found-is v finds =
-        ap (λ o. chosen o (chain_search practice code1 subject) (hidden_search practice code1 subject)) (searched-below practice code1 subject l within siblings level)
+        ap (λ o. chosen o (chain_search practice lamport_diffie_code subject) (unrevealed_search practice lamport_diffie_code subject)) (searched-below practice lamport_diffie_code subject l within siblings level)
         ∙ finds
 
     trace-is : (v : Verdict) → Finds l v → Traces stamp bytes v
     trace-is v finds =
         let is = found-is v finds in
         record {
-          answers = ap (λ r. after r (λ i. Ok (verdict_numbers i (found practice code1 (traced_by signer stamp i bytes))))) verified ∙ ap (λ w. Ok (verdict_numbers 0 w)) is;
-          reports = λ report. ap (λ r. report_after r (λ i. verdict_report (found practice code1 (traced_by signer stamp i bytes))) report) verified ∙ ap verdict_report is;
+          answers = ap (λ r. after r (λ i. Ok (verdict_numbers i (found practice lamport_diffie_code (traced_by signer stamp i bytes))))) verified ∙ ap (λ w. Ok (verdict_numbers 0 w)) is;
+          reports = λ report. ap (λ r. report_after r (λ i. verdict_report (found practice lamport_diffie_code (traced_by signer stamp i bytes))) report) verified ∙ ap verdict_report is;
         }
 
 -- a find, with a report of four strings
@@ -140,13 +140,13 @@ other = trace-is (string 0x80) (changed 1 1 zeros) 8 (lit≤ tt) refl refl refl 
 -- the same, on the signer and a record of the examples
 module _ {stamp bytes bytes' : List ℕ} {v : Verdict} (is : bytes ≡ bytes') (traces : Traces stamp bytes' v) where
   verdict-is : verdict stamp bytes ≡ answered_three (Ok (verdict_numbers 0 v))
-  verdict-is = (λ i. answered_three (trace_answer practice code1 (signed_is i) stamp (is i))) ∙ ap answered_three traces.answers
+  verdict-is = (λ i. answered_three (trace_answer practice lamport_diffie_code (signed_is i) stamp (is i))) ∙ ap answered_three traces.answers
 
   reported-is : (n : ℕ) → reported n stamp bytes ≡ gives (flat_map (string_at (verdict_report v)) (range_with_len 0 n))
   reported-is n =
       let report = replicate 64 0xFF in
       let first : List ℕ → Outcome = λ r. gives (flat_map (string_at r) (range_with_len 0 n)) in
-      (λ i. first (trace_report practice code1 (signed_is i) stamp (is i) report)) ∙ ap first (traces.reports report)
+      (λ i. first (trace_report practice lamport_diffie_code (signed_is i) stamp (is i) report)) ∙ ap first (traces.reports report)
 
 one-is : one_changed ≡ changed 6 7 zeros
 one-is = ap (changed 6 7) zeros-is

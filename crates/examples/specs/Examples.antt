@@ -14,7 +14,7 @@ use Rattle.compare.specs.Found.{report_size}
 use Rattle.rules.specs.Rules.{release_size, sign_answer, sign_state, sign_output, skip_answer}
 use Rattle.rules.specs.Rules.{skip_state, trace_answer, trace_report}
 use Rattle.rules.specs.States.{Signing}
-use Rattle.examples.specs.Setting.{string, code1, code2, code3, origin, fresh}
+use Rattle.examples.specs.Setting.{string, lamport_diffie_code, winternitz2_code, winternitz4_code, origin, fresh}
 
 -- numbers, or a refusal by its number
 pub data Outcome : Type 0 where
@@ -84,11 +84,11 @@ digits_from code k n stamp = gives (map (code.digit stamp) (range_with_len k n))
 -- the checksum's digits under both Winternitz codes
 abbrev pub coding : List Example
 coding =
-    example (digits_from code2 64 5 (string 0)) (gives (1 ∷ 0 ∷ 0 ∷ 0 ∷ 0 ∷ []))
-    ∷ example (digits_from code2 64 5 (replicate 16 0xFF)) (gives (0 ∷ 1 ∷ 0 ∷ 0 ∷ 0 ∷ []))
-    ∷ example (digits_from code2 64 5 (string 0x40)) (gives (0 ∷ 3 ∷ 3 ∷ 3 ∷ 3 ∷ []))
-    ∷ example (digits_from code3 32 3 (string 0)) (gives (2 ∷ 0 ∷ 0 ∷ []))
-    ∷ example (digits_from code3 32 3 (replicate 16 0xFF)) (gives (0 ∷ 2 ∷ 0 ∷ []))
+    example (digits_from winternitz2_code 64 5 (string 0)) (gives (1 ∷ 0 ∷ 0 ∷ 0 ∷ 0 ∷ []))
+    ∷ example (digits_from winternitz2_code 64 5 (replicate 16 0xFF)) (gives (0 ∷ 1 ∷ 0 ∷ 0 ∷ 0 ∷ []))
+    ∷ example (digits_from winternitz2_code 64 5 (string 0x40)) (gives (0 ∷ 3 ∷ 3 ∷ 3 ∷ 3 ∷ []))
+    ∷ example (digits_from winternitz4_code 32 3 (string 0)) (gives (2 ∷ 0 ∷ 0 ∷ []))
+    ∷ example (digits_from winternitz4_code 32 3 (replicate 16 0xFF)) (gives (0 ∷ 2 ∷ 0 ∷ []))
     ∷ example (gives (checksum 2 (1 ∷ 2 ∷ 0 ∷ 3 ∷ 2 ∷ []) ∷ [])) (gives (12 ∷ []))
     ∷ example (gives (ending 2 3 12)) (gives (0 ∷ 3 ∷ 0 ∷ []))
     ∷ []
@@ -100,13 +100,13 @@ lengths code h = gives (key_length h code.levels ∷ release_length code.count h
 -- the longest records that there are, and the shortest
 abbrev pub measuring : List Example
 measuring =
-    example (lengths code1 8) (gives (554 ∷ 4232 ∷ []))
-    ∷ example (lengths code3 1) (gives (266 ∷ 584 ∷ []))
+    example (lengths lamport_diffie_code 8) (gives (554 ∷ 4232 ∷ []))
+    ∷ example (lengths winternitz4_code 1) (gives (266 ∷ 584 ∷ []))
     ∷ []
 
 -- a new signer of height 1
 abbrev pub new : Signing
-new = fresh code1 1
+new = fresh lamport_diffie_code 1
 
 -- that signer after a skip to 2
 abbrev pub once : Signing
@@ -118,25 +118,25 @@ twice = skip_state once 2
 
 -- an output as long as one release record
 abbrev pub output : List ℕ
-output = replicate (release_size code1 new) 0
+output = replicate (release_size lamport_diffie_code new) 0
 
 -- a skip to the end and what is refused there
 abbrev pub skipping : List Example
 skipping =
     example (answered (skip_answer new 2)) (gives (2 ∷ []))
     ∷ example (answered (skip_answer once 2)) (gives (2 ∷ []))
-    ∷ example (answered_two (sign_answer code1 twice output)) (refused 3)
+    ∷ example (answered_two (sign_answer lamport_diffie_code twice output)) (refused 3)
     ∷ example (answered (skip_answer twice 1)) (refused 5)
     ∷ example (answered (skip_answer twice 3)) (refused 5)
     ∷ []
 
 -- what the new signer writes for a stamp
 abbrev pub written : List ℕ → List ℕ
-written stamp = sign_output practice code1 new stamp output
+written stamp = sign_output practice lamport_diffie_code new stamp output
 
 -- that signer once it has signed the stamp of zeros
 abbrev pub signed : Signing
-signed = sign_state code1 new (string 0) output
+signed = sign_state lamport_diffie_code new (string 0) output
 
 -- a record with another string k, which lies at byte 8 + 16 k
 abbrev pub changed : ℕ → ℕ → List ℕ → List ℕ
@@ -156,12 +156,12 @@ two_changed = changed 3 0 (changed 1 1 (written (string 0)))
 
 -- what trace answers
 abbrev pub verdict : List ℕ → List ℕ → Outcome
-verdict stamp bytes = answered_three (trace_answer practice code1 signed stamp bytes)
+verdict stamp bytes = answered_three (trace_answer practice lamport_diffie_code signed stamp bytes)
 
 -- the first n strings of its report
 abbrev pub reported : ℕ → List ℕ → List ℕ → Outcome
 reported n stamp bytes =
-    let report = trace_report practice code1 signed stamp bytes (replicate report_size 0xFF) in
+    let report = trace_report practice lamport_diffie_code signed stamp bytes (replicate report_size 0xFF) in
     gives (flat_map (string_at report) (range_with_len 0 n))
 
 -- strings that a record shows, each verdict, and two reports

@@ -12,7 +12,7 @@ use Rattle.tree.specs.Known.{practice, lamport_diffie_code, winternitz2_code, wi
 use Rattle.tree.specs.Meaning.{Code, hash_by, code_of}
 use Rattle.growth.specs.Grown.{masks_size}
 use Rattle.growth.specs.declared.origin.Origin.{Origin}
-use Rattle.rules.specs.Rules.{begin_rule, finish_state}
+use Rattle.rules.specs.Rules.{begin_state, finish_state}
 use Rattle.rules.specs.States.{Signing}
 
 -- the string whose byte 0 is b, and the rest zero
@@ -20,26 +20,26 @@ abbrev pub string : ℕ → List ℕ
 string b = b ∷ replicate 15 0
 
 -- the codes by their numbers: 1, the Lamport-Diffie code
-abbrev pub code1 : Code
-code1 = lamport_diffie_code
+abbrev pub lamport_diffie_code : Code
+lamport_diffie_code = lamport_diffie_code
 
 -- 2, the Winternitz code with digits of 2 bits
-abbrev pub code2 : Code
-code2 = winternitz2_code
+abbrev pub winternitz2_code : Code
+winternitz2_code = winternitz2_code
 
 -- 3, the Winternitz code with digits of 4 bits
-abbrev pub code3 : Code
-code3 = winternitz4_code
+abbrev pub winternitz4_code : Code
+winternitz4_code = winternitz4_code
 
 -- the hash and the codes are those that their impls state
 pub record AsStated : Type 0 where
   pub hash : practice ≡ hash_by practice_chain.ghosts practice_tree.ghosts
-  pub first : code1 ≡ code_of lamport_diffie.ghosts
+  pub first : lamport_diffie_code ≡ code_of lamport_diffie.ghosts
   pub second :
-      code2
+      winternitz2_code
       ≡ code_of (winternitz.ghosts two_bits.the_row two_bits_width.ghosts two_bits_width.dict)
   pub third :
-      code3
+      winternitz4_code
       ≡ code_of (winternitz.ghosts four_bits.the_row four_bits_width.ghosts four_bits_width.dict)
 
 -- what is grown from at height h: seed, hash key and masks are zero
@@ -49,4 +49,4 @@ origin h =
 
 -- the signer that finish gives, of a key of height h
 abbrev pub fresh : Code → ℕ → Signing
-fresh code h = finish_state practice code (begin_rule (origin h))
+fresh code h = finish_state practice code (begin_state (origin h))

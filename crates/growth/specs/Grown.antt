@@ -1,5 +1,5 @@
 -- The tree that a seed, a hash key and masks give, and what of it is held while it is grown.
-use Rattle.std.specs.Prelude.{◌≡◌, ℕ, zero, suc, ◌-◌, ◌/◌, ◌%◌, ◌^◌, ◌<◌, Bool}
+use Rattle.std.specs.Prelude.{◌≡◌, ℕ, zero, suc, ◌-◌, ◌*◌, ◌/◌, ◌%◌, ◌^◌, ◌<◌, Bool}
 use Rattle.std.specs.Prelude.{if◌then◌else◌, ◌&&◌, List, ◌==◌, nat_le}
 use Rattle.strings.specs.Strings.{numeral, zero_string, string_at, put_string}
 use Rattle.tree.specs.Meaning.{Hash, Code}
@@ -42,7 +42,7 @@ held_levels = 9
 
 -- the bytes of the nodes that are held while a tree is grown: a string for each of these levels
 abbrev pub nodes_size : ℕ
-nodes_size = 144
+nodes_size = 16 * held_levels
 
 -- how many subtrees of 2 ^ j leaves g leaves fill
 abbrev pub filled : ℕ → ℕ → ℕ

@@ -9,4 +9,4 @@ mod stack;
 
 pub use origin::{MASKS, Origin, Tree};
 pub use shown::sibling;
-pub use stack::NODES;
+pub use stack::{HELD_LEVELS, NODES};

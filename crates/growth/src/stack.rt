@@ -10,9 +10,12 @@ use hashes::TreeHash;
 use strings::{ZERO, put_string, string_at};
 use tree::rows::WORK;
 
+/// How many levels a tree has from its root to its leaves, at most: 0 to 8.
+pub const HELD_LEVELS: usize = 9;
+
 /// The bytes of the nodes that are held: a string of 16 bytes for each level from the root to the
-/// leaves, of which there are 9 at most.
-pub const NODES: usize = 144;
+/// leaves.
+pub const NODES: usize = 16 * HELD_LEVELS;
 
 impl<H: TreeHash, C: Code> Tree<'_, H, C> {
     /// Adds leaf number `grown` to a tree of which the leaves before it are in (treehash). String

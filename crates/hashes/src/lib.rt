@@ -3,7 +3,7 @@
 #![tactic(auto)]
 
 ghost use Rattle.std.specs.Prelude.{◌≡◌, ℕ, ◌<◌, List};
-ghost use Rattle.strings.specs.Strings.{Str};
+ghost use Rattle.strings.specs.Strings.{IsString};
 
 mod practice;
 
@@ -29,7 +29,7 @@ pub trait ChainHash {
     ghost number_range: { NUMBER < 256 };
 
     /// Of strings, a step gives a string.
-    ghost gives: { (k s : List ℕ) → Str k → Str s → Str (steps k s) };
+    ghost gives: { (k s : List ℕ) → IsString k → IsString s → IsString (steps k s) };
 }
 
 /// A tree hash is a chain hash that can also join two strings, as a node of a tree joins its
@@ -44,5 +44,5 @@ pub trait TreeHash: ChainHash {
         ensures { result ≡ pairs key.now left.now right.now };
 
     /// Of strings, a pair gives a string.
-    ghost joins: { (k l r : List ℕ) → Str k → Str l → Str r → Str (pairs k l r) };
+    ghost joins: { (k l r : List ℕ) → IsString k → IsString l → IsString r → IsString (pairs k l r) };
 }

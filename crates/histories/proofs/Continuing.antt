@@ -2,11 +2,11 @@
 use Rattle.std.proofs.Common.{◌≡◌, ℕ, List, [], ◌∷◌, Result, sym, subst}
 use Rattle.std.proofs.Math.Logic.{∥∥₁_map}
 use Rattle.growth.specs.declared.origin.Origin.{Origin}
-use Rattle.strings.specs.Strings.{Str}
+use Rattle.strings.specs.Strings.{IsString}
 use Rattle.tree.specs.Meaning.{Hash, Code}
 use Rattle.records.specs.declared.refusal.Refusal.{Refusal}
 use Rattle.histories.specs.Histories.{State, growing, serving, retired, IsSigner, Event, grow, finish, key, sign, skip, retire, trace, Lived, grows, finishes, writes_key, signs, skips, retires, traces, begun, called, HasLived, Continues}
-use Rattle.rules.specs.Rules.{begin_rule, grow_answer, grow_state, finish_state, key_answer, key_output, sign_answer, sign_state, sign_output, skip_answer, skip_state, trace_answer, trace_report}
+use Rattle.rules.specs.Rules.{begin_state, grow_answer, grow_state, finish_state, key_answer, key_output, sign_answer, sign_state, sign_output, skip_answer, skip_state, trace_answer, trace_report}
 use Rattle.rules.specs.States.{Begun, Making, Signing}
 
 module _ (hash : Hash) (code : Code) where
@@ -27,7 +27,7 @@ module _ (hash : Hash) (code : Code) where
   pub key-continues : (x : State) (s : Signing) → IsSigner x s → (out after : List ℕ) (r : Result ℕ Refusal) → r ≡ key_answer code s out → after ≡ key_output hash code s out → Continues hash code x (key out r after) x
   key-continues x s holds out after r p q = same x x x _ (key out r after) (λ i. key out (p i) (q i)) (λ i. x) (λ o w l. called l (writes_key x s out holds))
 
-  pub sign-continues : (s s' : Signing) (stamp out after : List ℕ) (r : Result (ℕ × ℕ) Refusal) → Str stamp → r ≡ sign_answer code s out → s' ≡ sign_state code s stamp out → after ≡ sign_output hash code s stamp out → Continues hash code (serving s) (sign stamp out r after) (serving s')
+  pub sign-continues : (s s' : Signing) (stamp out after : List ℕ) (r : Result (ℕ × ℕ) Refusal) → IsString stamp → r ≡ sign_answer code s out → s' ≡ sign_state code s stamp out → after ≡ sign_output hash code s stamp out → Continues hash code (serving s) (sign stamp out r after) (serving s')
   sign-continues s s' stamp out after r str p q a = same (serving s) _ (serving s') _ (sign stamp out r after) (λ i. sign stamp out (p i) (a i)) (λ i. serving (q i)) (λ o w l. called l (signs s stamp out str))
 
   pub skip-continues : (s s' : Signing) (leaf : ℕ) (r : Result ℕ Refusal) → r ≡ skip_answer s leaf → s' ≡ skip_state s leaf → Continues hash code (serving s) (skip leaf r) (serving s')
@@ -39,5 +39,5 @@ module _ (hash : Hash) (code : Code) where
   pub trace-continues : (x : State) (s : Signing) → IsSigner x s → (stamp bytes report after : List ℕ) (r : Result (ℕ × ℕ × ℕ) Refusal) → r ≡ trace_answer hash code s stamp bytes → after ≡ trace_report hash code s stamp bytes report → Continues hash code x (trace stamp bytes report r after) x
   trace-continues x s holds stamp bytes report after r p a = same x x x _ (trace stamp bytes report r after) (λ i. trace stamp bytes report (p i) (a i)) (λ i. x) (λ o w l. called l (traces x s stamp bytes report holds))
 
-  pub begin-lives : (o : Origin) (m : Making) → Begun o → m ≡ begin_rule o → Lived hash code o [] (growing m)
+  pub begin-lives : (o : Origin) (m : Making) → Begun o → m ≡ begin_state o → Lived hash code o [] (growing m)
   begin-lives o m given q = subst (λ n. Lived hash code o [] (growing n)) (sym q) (begun given)

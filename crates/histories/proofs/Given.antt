@@ -6,7 +6,7 @@ use Rattle.std.proofs.lemmas.Bool.{not-false}
 use Rattle.growth.specs.Grown.{parameters, node_at}
 use Rattle.growth.specs.declared.origin.Origin.{Origin}
 use Rattle.growth.proofs.Strings.{node-str}
-use Rattle.strings.specs.Strings.{Bytes}
+use Rattle.strings.specs.Strings.{IsBytes}
 use Rattle.tree.specs.Meaning.{Hash, Code}
 use Rattle.tree.specs.Rebuilt.{rebuilt}
 use Rattle.records.specs.Records.{release_bytes, root_of, row_of}
@@ -49,7 +49,7 @@ module _ (hash : Hash) (code : Code) (laws : Laws hash code) (o : Origin) (w : H
       let below = spent.below in
       let within = x.within in
       subst (λ r. Accepts hash code s stamp r i) (sym spent.is)
-      (accepting hash code s (strings laws b) b.tall laws.of_code.level_range.1 root-long i stamp laws.of_code.count_range.0 (few-chains laws) (λ k. laws.of_code.within stamp k spent.string) x.rooted (omega arith))
+      (accepting hash code s (strings laws b) b.tall laws.of_code.level_range.1 root-long i stamp (few-chains laws) (λ k. laws.of_code.within stamp k spent.string) x.rooted (omega arith))
 
   -- the signer's own key is what open reads
   pub own-verified : (i : ℕ) (stamp bytes : List ℕ) → Accepts hash code s stamp bytes i → verify_rule hash code (own_key hash code s) stamp bytes ≡ Ok i
@@ -57,7 +57,7 @@ module _ (hash : Hash) (code : Code) (laws : Laws hash code) (o : Origin) (w : H
       let b = x.begun in
       ap (λ k. verify_rule hash code k stamp bytes) (ok_same (sym (record-opens hash code s b.tall laws.of_code.level_range.1 b.keyed.0 b.masked.0 root-long) ∙ a.1)) ∙ a.2
 
-  pub given : (i : ℕ) (stamp bytes : List ℕ) → Bytes bytes → Accepts hash code s stamp bytes i → Given hash code s stamp bytes i
+  pub given : (i : ℕ) (stamp bytes : List ℕ) → IsBytes bytes → Accepts hash code s stamp bytes i → Given hash code s stamp bytes i
   given i stamp bytes all a =
       let o' = s.origin in
       let strs = strings laws x.begun in
@@ -68,7 +68,7 @@ module _ (hash : Hash) (code : Code) (laws : Laws hash code) (o : Origin) (w : H
       let reads = after-ok (read_rule hash.number code own bytes) (λ release. refuse (not (bytes_eq (root_shown hash code own stamp release) (root_of (key_record hash code s)))) Root (Ok release.leaf)) verified in
       let shown = reads.0 in
       let pass = passes (not (bytes_eq (root_shown hash code own stamp shown) (root_of (key_record hash code s)))) Root (Ok shown.leaf) reads.2 in
-      let parts = (reads-releases code.count o'.height bytes laws.of_code.count_range.0 (few-chains laws) tall.1 all).written shown.leaf shown.row
+      let parts = (reads-releases code.count o'.height bytes (omega (arith, tall.0)) (few-chains laws) tall.1 all).written shown.leaf shown.row
       (sym (read-as-released hash.number code own bytes (key-suits hash code s strs tall few root-long)) ∙ reads.1) in
       let leaf : shown.leaf ≡ i = ok_same pass.1 in
       let row : shown.row ≡ row_of bytes = sym (ap row_of parts.1) in

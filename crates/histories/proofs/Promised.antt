@@ -7,13 +7,13 @@ use Rattle.compare.specs.Search.{found}
 use Rattle.compare.specs.Sides.{Traced, revealed_height}
 use Rattle.compare.specs.declared.verdict.Verdict.{Verdict}
 use Rattle.compare.specs.declared.verdict.Verdict.TheVariants.{Ours}
-use Rattle.compare.proofs.Breaks.{hidden-report, node-report-meets, node-report-differs, chain-report-meets, chain-report-differs}
+use Rattle.compare.proofs.Breaks.{unrevealed-report, node-report-meets, node-report-differs, chain-report-meets, chain-report-differs}
 use Rattle.compare.proofs.Lawful.{Lawful}
 use Rattle.compare.proofs.Searches.{found_first, found-only}
 use Rattle.compare.proofs.Truth.{row-true, ours-true, true-ours}
 use Rattle.compare.proofs.Agreeing.{row_shows}
 use Rattle.growth.specs.declared.origin.Origin.{Origin}
-use Rattle.strings.specs.Strings.{Bytes, Str}
+use Rattle.strings.specs.Strings.{IsBytes, IsString}
 use Rattle.tree.specs.Meaning.{Hash, Code}
 use Rattle.records.specs.Records.{release_bytes, row_of}
 use Rattle.verifier.specs.Rules.{verify_rule}
@@ -43,7 +43,7 @@ module _ (hash : Hash) (code : Code) (laws : Laws hash code) (o : Origin) (w : H
   tall = x.begun.tall.1
 
   -- the stamps in the ledger are strings
-  entered-str : (i : ℕ) (m : List ℕ) → get_or s.rows i None ≡ Some m → Str m
+  entered-str : (i : ℕ) (m : List ℕ) → get_or s.rows i None ≡ Some m → IsString m
   entered-str i m row = (x.issued i _ m (x.entered i m row)).string
 
   -- a height below what the ledger says was revealed was not
@@ -57,11 +57,11 @@ module _ (hash : Hash) (code : Code) (laws : Laws hash code) (o : Origin) (w : H
       (λ top. omega arith)
       (λ shown. none-some shown.1 (sym at ∙ (x.issued i shown.0 shown.1 shown.2.issued).row))
 
-  module _ (stamp bytes : List ℕ) (str : Str stamp) (all : Bytes bytes) (i : ℕ) where
+  module _ (stamp bytes : List ℕ) (str : IsString stamp) (all : IsBytes bytes) (i : ℕ) where
     abbrev t : Traced
     t = traced_by s stamp i bytes
 
-    row-bytes : Bytes (row_of bytes)
+    row-bytes : IsBytes (row_of bytes)
     row-bytes = All-drop (λ b. b < 256) 8 bytes all
 
     -- what trace answers, and its report
@@ -109,14 +109,14 @@ module _ (hash : Hash) (code : Code) (laws : Laws hash code) (o : Origin) (w : H
         })
     found-breaks g never (unrevealed k f) =
         let row = row-true hash code t law tall str g.placed g.filled f.no_node f.no_chain g.leads in
-        let shows = (row_shows hash code t law tall row).0 k f.hides.chain in
+        let shows = (row_shows hash code t law tall row).0 k f.shows.chain in
         promise.unrevealed k (code.digit stamp k) refl
         (record {
-          chain = f.hides.chain;
+          chain = f.shows.chain;
           height = refl;
-          own = hidden-report hash code t law tall k;
-          shown = shows ∙ sym (hidden-report hash code t law tall k);
-          hidden = unseen i k (code.digit stamp k) (get_or s.rows i None) refl f.hides.below;
+          own = unrevealed-report hash code t law tall k;
+          shown = shows ∙ sym (unrevealed-report hash code t law tall k);
+          not_revealed = unseen i k (code.digit stamp k) (get_or s.rows i None) refl f.shows.below;
         })
     found-breaks g never (ours none) = absurd (never (was-issued g (ours none)))
 
@@ -131,7 +131,7 @@ module _ (hash : Hash) (code : Code) (laws : Laws hash code) (o : Origin) (w : H
         subst (λ r. Breaks hash code w s stamp bytes i r (trace_report hash code s stamp bytes report)) (sym (answers g.verified))
         (subst (Breaks hash code w s stamp bytes i _) (sym (reports g.verified report)) (found-breaks g never (found_first hash code t)))
 
-pub promised : {hash : Hash} {code : Code} → Laws hash code → (o : Origin) (w : History) (x : State) (s : Signing) → Lived hash code o w x → IsSigner x s → (stamp bytes report : List ℕ) → Str stamp → Bytes bytes → Promise hash code w s stamp bytes (trace_answer hash code s stamp bytes) (trace_report hash code s stamp bytes report)
+pub promised : {hash : Hash} {code : Code} → Laws hash code → (o : Origin) (w : History) (x : State) (s : Signing) → Lived hash code o w x → IsSigner x s → (stamp bytes report : List ℕ) → IsString stamp → IsBytes bytes → Promise hash code w s stamp bytes (trace_answer hash code s stamp bytes) (trace_report hash code s stamp bytes report)
 promised {hash} {code} laws o w x s lived holds stamp bytes report str all =
     let y = sound hash code laws o lived holds in
     record {

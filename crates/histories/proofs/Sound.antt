@@ -7,7 +7,7 @@ use Rattle.growth.specs.Shown.{shown_row}
 use Rattle.growth.specs.declared.origin.Origin.{Origin}
 use Rattle.growth.proofs.Carries.{holds_more}
 use Rattle.growth.proofs.Trees.{holds-root}
-use Rattle.strings.specs.Strings.{Str, string_at}
+use Rattle.strings.specs.Strings.{IsString, string_at}
 use Rattle.tree.specs.Meaning.{Hash, Code}
 use Rattle.records.specs.Records.{release_bytes}
 use Rattle.records.specs.declared.refusal.Refusal.{Refusal}
@@ -24,7 +24,7 @@ use Rattle.rules.proofs.Laws.{strings}
 pub record SpentOn (hash : Hash) (code : Code) (s : Signing) (i : ℕ) (bytes stamp : List ℕ) : Type 0 where
   pub below : i < s.next
   pub row : get_or s.rows i None ≡ Some stamp
-  pub string : Str stamp
+  pub string : IsString stamp
   pub is : bytes ≡ release_bytes i (shown_row hash code s.origin i stamp)
 
 -- a signer: its root is that of its tree, and its ledger is what its history issued
@@ -151,7 +151,7 @@ module _ (hash : Hash) (code : Code) (laws : Laws hash code) where
         }
 
     -- a sign call that is not refused
-    module _ (w : History) (s : Signing) (stamp out : List ℕ) (str : Str stamp) (x : Sound hash code o w s) (goes : (all_spent s || no_room code s out) ≡ false) where
+    module _ (w : History) (s : Signing) (stamp out : List ℕ) (str : IsString stamp) (x : Sound hash code o w s) (goes : (all_spent s || no_room code s out) ≡ false) where
       abbrev event : Event
       event = sign_of hash code s stamp out
 
@@ -200,7 +200,7 @@ module _ (hash : Hash) (code : Code) (laws : Laws hash code) where
                 record {
                   below = omega arith;
                   row = ap (λ k. get_or next.rows k None) (sym leaf) ∙ here-row ∙ ap Some fresh.0;
-                  string = subst Str fresh.0 str;
+                  string = subst IsString fresh.0 str;
                   is = fresh.1.2 ∙ ap (λ k. take k (sign_output hash code s stamp out)) (sym size) ∙ writes ∙ (λ j. release_bytes (leaf j) (shown_row hash code s.origin (leaf j) (fresh.0 j)));
                 })
                 (newest y);

@@ -1,10 +1,10 @@
 -- The calls behind a signer, and the state that they lead to.
 use Rattle.std.specs.Prelude.{ℕ, List, [], ◌∷◌, take, Ok, Result}
-use Rattle.strings.specs.Strings.{Str}
+use Rattle.strings.specs.Strings.{IsString}
 use Rattle.tree.specs.Meaning.{Hash, Code}
 use Rattle.growth.specs.declared.origin.Origin.{Origin}
 use Rattle.records.specs.declared.refusal.Refusal.{Refusal}
-use Rattle.rules.specs.Rules.{begin_rule, grow_answer, grow_state, finish_state, key_answer}
+use Rattle.rules.specs.Rules.{begin_state, grow_answer, grow_state, finish_state, key_answer}
 use Rattle.rules.specs.Rules.{key_output, sign_answer, sign_state, sign_output, skip_answer}
 use Rattle.rules.specs.Rules.{skip_state, trace_answer, trace_report}
 use Rattle.rules.specs.States.{Begun, Making, Signing}
@@ -44,7 +44,7 @@ pub data Leads (hash : Hash) (code : Code) : State → Event → State → Type 
       Leads hash code (growing m) finish (serving (finish_state hash code m))
   writes_key : (x : State) (s : Signing) (out : List ℕ) → IsSigner x s →
       Leads hash code x (key out (key_answer code s out) (key_output hash code s out)) x
-  signs : (s : Signing) (stamp out : List ℕ) → Str stamp →
+  signs : (s : Signing) (stamp out : List ℕ) → IsString stamp →
       Leads hash code (serving s)
       (sign stamp out (sign_answer code s out) (sign_output hash code s stamp out))
       (serving (sign_state code s stamp out))
@@ -58,7 +58,7 @@ pub data Leads (hash : Hash) (code : Code) : State → Event → State → Type 
 
 -- a history leads from begin, with o given, to a state: each call works on what the one before left
 pub data Lived (hash : Hash) (code : Code) (o : Origin) : History → State → Type 0 where
-  begun : Begun o → Lived hash code o [] (growing (begin_rule o))
+  begun : Begun o → Lived hash code o [] (growing (begin_state o))
   called : {w : History} {x y : State} {call : Event} →
       Lived hash code o w x → Leads hash code x call y → Lived hash code o (call ∷ w) y
 

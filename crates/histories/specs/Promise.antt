@@ -68,7 +68,7 @@ pub record Unrevealed (hash : Hash) (code : Code) (w : History) (s : Signing)
   pub height : e ≡ code.digit stamp k
   pub own : string_at report 0 ≡ chain_string hash s.origin i k e
   pub shown : chain_in (row_of bytes) k ≡ string_at report 0
-  pub hidden : Revealed code w i k e → ⊥
+  pub not_revealed : Revealed code w i k e → ⊥
 
 -- trace shows where the hash gave way, for a record with leaf number i: its answer r is the verdict
 -- and two numbers, and its report shows the break

@@ -3,6 +3,7 @@
 
 use codes::Winternitz4;
 use compare::REPORT;
+use growth::MASKS;
 use hashes::Practice;
 use signer::{Maker, Plan, Signer};
 use telling::{tell_refusal, tell_verdict};
@@ -11,10 +12,6 @@ use verifier::{open, verify};
 
 mod tampering;
 mod telling;
-
-type Making = Maker<Practice, Winternitz4>;
-
-type Signing = Signer<Practice, Winternitz4>;
 
 // The chains of a leaf: as many digits as the code writes.
 const CHAINS: usize = 35;
@@ -34,14 +31,14 @@ const WORDS: [&str; 4] = [
 ];
 
 // The same seed, hash key and masks each time: whoever has them can make every record of the key.
-fn begun(plan: Plan) -> Making {
-    Making::begin(plan, [5; 16], [9; 16], [1; 512])
+fn begun(plan: Plan) -> Maker<Practice, Winternitz4> {
+    Maker::begin(plan, [5; 16], [9; 16], [1; MASKS])
 }
 
 // The key record is written; an output that is too short is refused.
 fn publish<'a>(
     rt: &HostRuntime,
-    key: &Signing,
+    key: &Signer<Practice, Winternitz4>,
     out: &'a mut [u8; ROOM],
 ) -> anyhow::Result<&'a [u8]> {
     if let Err(refusal) = key.key(&mut out[0..100]) {
@@ -53,7 +50,7 @@ fn publish<'a>(
 }
 
 // A leaf is passed over, and there is no way back.
-fn skip(rt: &HostRuntime, key: &mut Signing) -> anyhow::Result<()> {
+fn skip(rt: &HostRuntime, key: &mut Signer<Practice, Winternitz4>) -> anyhow::Result<()> {
     if let Ok(next) = key.skip(3) {
         println!(rt;
             "Leaf 2 is skipped: the next leaf is {next}, and row 2 of the ledger stays empty."
@@ -94,7 +91,7 @@ struct Depot<'a> {
 
 impl Depot<'_> {
     // A key of four leaves is begun, and half of it grown.
-    fn begin(&mut self) -> anyhow::Result<Making> {
+    fn begin(&mut self) -> anyhow::Result<Maker<Practice, Winternitz4>> {
         println!(self.rt;
             "A key of height {} is begun under the practice hash, with Winternitz digits of four bits.",
             self.plan.height()
@@ -112,7 +109,7 @@ impl Depot<'_> {
     // An order is signed, and the record handed to a box.
     fn release(
         &mut self,
-        key: &mut Signing,
+        key: &mut Signer<Practice, Winternitz4>,
         locked: Locked<'_>,
         order: u8,
     ) -> anyhow::Result<[u8; RELEASE]> {
@@ -139,7 +136,7 @@ impl Depot<'_> {
     }
 
     // What tracing a record answers.
-    fn trace(&mut self, key: &Signing, order: u8, release: &[u8; RELEASE]) -> anyhow::Result<()> {
+    fn trace(&mut self, key: &Signer<Practice, Winternitz4>, order: u8, release: &[u8; RELEASE]) -> anyhow::Result<()> {
         let mut report = [0; REPORT];
         match key.trace(&[order; 16], release, &mut report, &mut self.work) {
             Ok(verdict) => tell_verdict(self.rt, verdict, &report),
@@ -151,7 +148,7 @@ impl Depot<'_> {
     // for all of them but the last.
     fn specimens(
         &mut self,
-        key: &Signing,
+        key: &Signer<Practice, Winternitz4>,
         locked: Locked<'_>,
         first: &[u8; RELEASE],
         second: &[u8; RELEASE],

@@ -5,7 +5,7 @@ use Rattle.std.proofs.lemmas.List.{nil_from_length}
 use Rattle.records.specs.declared.refusal.Refusal.{Refusal}
 use Rattle.records.specs.declared.refusal.Refusal.TheVariants.{Length}
 use Rattle.orders.specs.Outcomes.{Outcomes, none, short, order, first_record, after_record, first_answers, answers_to}
-use Rattle.orders.specs.Texts.{numbered}
+use Rattle.orders.specs.Texts.{counted_from}
 
 module _ (verify : List ℕ → List ℕ → Result ℕ Refusal) where
   -- no bytes have no answers
@@ -75,11 +75,11 @@ module _ (verify : List ℕ → List ℕ → Result ℕ Refusal) where
       ∙ (λ i. sym (is ∙ (λ j. verify (s j) (r j))) i ∷ answers_to verify (sym o i))
 
   -- no order is left
-  pub none-left : (given : ℕ) (bytes : List ℕ) → length bytes ≡ 0 → numbered (suc given) (answers_to verify bytes) ≡ []
-  unfolding numbered first_answers
-  none-left given bytes e = ap (λ n. numbered (suc given) (first_answers verify n bytes)) e
+  pub none-left : (given : ℕ) (bytes : List ℕ) → length bytes ≡ 0 → counted_from (suc given) (answers_to verify bytes) ≡ []
+  unfolding counted_from first_answers
+  none-left given bytes e = ap (λ n. counted_from (suc given) (first_answers verify n bytes)) e
 
 -- the next order, and those after it
-pub next-first : (given : ℕ) (all others : List (Result ℕ Refusal)) (outcome : Result ℕ Refusal) → all ≡ outcome ∷ others → numbered (suc given) all ≡ record { number = given + 1; outcome = outcome } ∷ numbered (suc (given + 1)) others
-unfolding numbered
-next-first given all others outcome e = rw add-one (ap (numbered (suc given)) e)
+pub next-first : (given : ℕ) (all others : List (Result ℕ Refusal)) (outcome : Result ℕ Refusal) → all ≡ outcome ∷ others → counted_from (suc given) all ≡ record { number = given + 1; outcome = outcome } ∷ counted_from (suc (given + 1)) others
+unfolding counted_from
+next-first given all others outcome e = rw add-one (ap (counted_from (suc given)) e)

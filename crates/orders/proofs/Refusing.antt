@@ -11,7 +11,7 @@ use Rattle.verifier.specs.Conditions.{Opening, OpenedWith}
 use Rattle.records.specs.Keys.{Key}
 use Rattle.records.specs.Records.{key_length, hash_number_of, code_number_of, height_of, spare_of}
 use Rattle.records.specs.Refusals.{refusal_number}
-use Rattle.records.specs.Rules.{after, foreign, bad_height, header_rule, open_rule}
+use Rattle.records.specs.Rules.{after, is_foreign, has_bad_height, header_rule, open_rule}
 use Rattle.verifier.specs.Rules.{verify_rule}
 use Rattle.records.specs.declared.refusal.Refusal.{Refusal}
 use Rattle.records.specs.declared.refusal.Refusal.TheVariants.{Length, Parameters, Height, Layout}
@@ -48,9 +48,9 @@ open-refuses hash code key h c =
     let long = differs (length key) (key_length (height_of key) (code_named code).levels) in
     refuses-after _ _ (header_rule kind.Key key) _ (header-refuses kind.Key key)
     (λ body is.
-    refuses-more (foreign (hash_named hash).number (code_named code).number key) (UnknownKey key) Parameters _ _
+    refuses-more (is_foreign (hash_named hash).number (code_named code).number key) (UnknownKey key) Parameters _ _
     (λ test. absurd (⊎_elim (λ n. n (sym h)) (λ n. n (sym c)) (unlike.0 test)), λ unknown. absurd (⊎_elim (λ n. n hash h) (λ n. n code c) unknown))
-    (refuses-more (bad_height key) (WrongHeight key) Height _ _
+    (refuses-more (has_bad_height key) (WrongHeight key) Height _ _
     (Decides-or _ _ (Decides-ltb (height_of key) 1) (Decides-or _ _ (Decides-ltb 8 (height_of key)) (differs (spare_of key) 0)))
     (refuses-more _ (WrongNamedLength key) Layout _ _
     (λ test. (code, c, long.0 test), λ wrong. long.1 (subst (λ d. WrongKeyLength (code_named d).levels key) (same-code wrong.0 code (wrong.1 ∙ sym c)) wrong.2))

@@ -1,13 +1,9 @@
 -- Orders one after the other: a stamp and a release record each.
 use Rattle.std.specs.Prelude.{ℕ, zero, suc, ◌<◌, ◌≤◌, Bool, if◌then◌else◌, ◌&&◌, List, [], ◌∷◌}
 use Rattle.std.specs.Prelude.{length, take, drop, Err, Result, ◌==◌, nat_le, nat_lt}
-use Rattle.records.specs.Records.{field, shortest_record}
+use Rattle.records.specs.Records.{named_length, shortest_record}
 use Rattle.records.specs.declared.refusal.Refusal.{Refusal}
 use Rattle.records.specs.declared.refusal.Refusal.TheVariants.{Length}
-
--- what the length field of the first record says, little-endian
-abbrev pub named_length : List ℕ → ℕ
-named_length bytes = field bytes 0 4
 
 -- enough bytes are left for a record, the length field names enough, and all the bytes that it
 -- names are there

@@ -40,10 +40,10 @@ abbrev pub order_text : Order → List ℕ
 order_text order = codes "order " ++ decimal order.number ++ outcome_text order.outcome
 
 -- the orders with these outcomes, the first of them with this number
-unfoldable pub numbered : ℕ → List (Result ℕ Refusal) → List Order
-numbered n [] = []
-numbered n (outcome ∷ outcomes) =
-    record { number = n; outcome = outcome } ∷ numbered (suc n) outcomes
+unfoldable pub counted_from : ℕ → List (Result ℕ Refusal) → List Order
+counted_from n [] = []
+counted_from n (outcome ∷ outcomes) =
+    record { number = n; outcome = outcome } ∷ counted_from (suc n) outcomes
 
 -- a line for each order
 abbrev pub order_lines : List Order → List ℕ
@@ -51,4 +51,4 @@ order_lines orders = flat_map (λ order. line (order_text order)) orders
 
 -- the lines of a report: the key's, and then those of the orders
 abbrev pub report_text : Reported → List ℕ
-report_text report = line (key_text report.key) ++ order_lines (numbered 1 report.orders)
+report_text report = line (key_text report.key) ++ order_lines (counted_from 1 report.orders)

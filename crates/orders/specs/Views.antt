@@ -8,7 +8,7 @@ use Rattle.schemes.specs.Names.{hash_named, code_named}
 use Rattle.schemes.specs.declared.scheme.Scheme.{Scheme}
 use Rattle.orders.specs.Outcomes.{answers_to}
 use Rattle.orders.specs.Reports.{Reported}
-use Rattle.orders.specs.Texts.{numbered}
+use Rattle.orders.specs.Texts.{counted_from}
 use Rattle.orders.specs.declared.key.KeySummary.{KeySummary}
 use Rattle.orders.specs.declared.order.Order.{Order}
 use Rattle.orders.specs.declared.report.Report.{Report}
@@ -30,7 +30,7 @@ answers_of tour = answers_to (answer_under tour.scheme tour.key) tour.orders.now
 
 -- the orders that are still to be handed out
 abbrev pub orders_to_come : Orders → List Order
-orders_to_come o = numbered (suc o.given) (answers_to (answer_under o.scheme o.key) o.rest.now)
+orders_to_come o = counted_from (suc o.given) (answers_to (answer_under o.scheme o.key) o.rest.now)
 
 -- the key and the answers of a report; a refused key record leaves no order
 abbrev pub reported : Report → Reported

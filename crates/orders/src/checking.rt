@@ -23,11 +23,11 @@ use verifier::{OpenedKey, open};
 
 // Opens a key record with any hash and code.
 #[derive(Drop)]
-struct Opening<'a> {
+struct Opener<'a> {
     key: &'a [u8],
 }
 
-impl<'a> Task for Opening<'a> {
+impl<'a> Task for Opener<'a> {
     ghost use Rattle.records.specs.Rules.{open_rule};
     ghost use Rattle.orders.specs.Openings.{Opens};
 
@@ -51,7 +51,7 @@ impl<'a> Task for Opening<'a> {
 fn check_by<'a>(scheme: Scheme, key: &'a [u8], orders: &'a [u8]) -> Report<'a>
     ensures { CheckedBy (Ok scheme) key.now orders.now (reported result) }
 {
-    match scheme.run(&mut Opening { key }) {
+    match scheme.run(&mut Opener { key }) {
         Ok((key, summary)) => Report::Opened(Tour {
             scheme,
             key,

@@ -20,7 +20,7 @@ pub struct Tour<'a> {
 }
 
 impl<'a> Tour<'a> {
-    ghost use Rattle.orders.specs.Texts.{numbered};
+    ghost use Rattle.orders.specs.Texts.{counted_from};
     ghost use Rattle.orders.specs.Views.{summary_of, answers_of, orders_to_come};
 
     /// What the key record names: the numbers of hash and code, and the height.
@@ -32,7 +32,7 @@ impl<'a> Tour<'a> {
 
     /// The orders, from the first on. None is checked yet.
     pub fn orders(&self) -> Orders<'a>
-        ensures { orders_to_come result ≡ numbered 1 (answers_of self.now) }
+        ensures { orders_to_come result ≡ counted_from 1 (answers_of self.now) }
     {
         Orders {
             scheme: self.scheme,

@@ -1,10 +1,10 @@
 -- What the rules of reading come to: an answer that is no refusal, and what then holds of the bytes.
 use Rattle.std.proofs.Common.{◌≡◌, ℕ, ◌+◌, ◌^◌, ◌<◌, ◌≤◌, Bool, true, false, List, length, get_or, drop, Ok, Err, Result, refl, ap, ◌∙◌, arith, w8, Fits}
 use Rattle.std.proofs.ByRecursion.{All-from_get_or}
-use Rattle.strings.specs.Strings.{Bytes}
+use Rattle.strings.specs.Strings.{IsBytes}
 use Rattle.std.proofs.lemmas.List.{get_or-drop}
 use Rattle.std.proofs.lemmas.Bool.Decides.{nat_tests}
-use Rattle.records.specs.Keys.{Key, Shown}
+use Rattle.records.specs.Keys.{Key, Release}
 use Rattle.records.specs.Kinds.{kind_number}
 use Rattle.records.specs.Records.{field, key_length, release_length, hash_number_of, code_number_of, height_of, spare_of, leaf_of, row_of}
 use Rattle.records.specs.Rules.{refuse, after, header_rule, open_rule, parts_rule, release_rule}
@@ -60,7 +60,7 @@ pub record Releases (count h : ℕ) (bytes : List ℕ) : Type 0 where
   pub laid : length bytes ≡ release_length count h
   pub below : leaf_of bytes < 2 ^ h
 
-pub release-to : (count h : ℕ) (bytes : List ℕ) (shown : Shown) → release_rule count h bytes ≡ Ok shown → Releases count h bytes × (shown ≡ record { leaf = leaf_of bytes; row = row_of bytes })
+pub release-to : (count h : ℕ) (bytes : List ℕ) (shown : Release) → release_rule count h bytes ≡ Ok shown → Releases count h bytes × (shown ≡ record { leaf = leaf_of bytes; row = row_of bytes })
 release-to count h bytes shown p = grind (arith, nat_tests)
 
 -- a byte of the body of a record
@@ -74,5 +74,5 @@ pub release-parts : (count h : ℕ) (bytes body : List ℕ) → Ok body ≡ head
 release-parts count h bytes body p = grind (arith, nat_tests)
 
 -- a slice of bytes holds bytes
-pub bytes-from : (s : List ℕ) → ((i : ℕ) → Fits w8 (get_or s i 0)) → Bytes s
+pub bytes-from : (s : List ℕ) → ((i : ℕ) → Fits w8 (get_or s i 0)) → IsBytes s
 bytes-from s typed = All-from_get_or (λ b. b < 256) s 0 (λ i h. (typed i).fits)

@@ -3,8 +3,8 @@ use Rattle.std.proofs.Common.{◌≡◌, ℕ, ◌+◌, ◌-◌, ◌*◌, ◌^◌
 use Rattle.std.proofs.lemmas.Grind.{common_steps}
 use Rattle.std.proofs.lemmas.List.{places, same_lists, length-append, length-take, length-take-le, length-drop, take_all, take_at, drop_at, drop-drop}
 use Rattle.records.specs.declared.refusal.Refusal.{Refusal}
-use Rattle.strings.specs.Strings.{Bytes, little_endian}
-use Rattle.records.specs.Keys.{Key, Shown}
+use Rattle.strings.specs.Strings.{IsBytes, little_endian}
+use Rattle.records.specs.Keys.{Key, Release}
 use Rattle.records.specs.Reads.{KeyParts, ReadsKeys, ReleaseParts, ReadsReleases}
 use Rattle.records.specs.Records.{framed, key_bytes, release_bytes, height_of, hash_key_of, masks_of, root_of, leaf_of, row_of}
 use Rattle.records.specs.Rules.{open_rule, release_rule}
@@ -13,7 +13,7 @@ use Rattle.records.specs.declared.kind.RecordKind.TheVariants as kind
 use Rattle.records.proofs.Facts.{Headed, Opens, open-from, open-to, release-to}
 
 -- the six header bytes are those that writing puts before the body
-pub frame : (kind : RecordKind) (bytes : List ℕ) → Bytes bytes → Headed kind bytes → bytes ≡ framed kind (drop 6 bytes)
+pub frame : (kind : RecordKind) (bytes : List ℕ) → IsBytes bytes → Headed kind bytes → bytes ≡ framed kind (drop 6 bytes)
 frame kind bytes b h = grind (arith, common_steps)
 
 -- what follows place a, in three pieces
@@ -34,7 +34,7 @@ key-parts hash code levels bytes o =
       rooted = length-take-le 16 (drop (length bytes - 16) bytes) (rw length-drop (omega arith));
     }
 
-key-written : (hash code levels : ℕ) (bytes : List ℕ) → Bytes bytes → Opens hash code levels bytes → bytes ≡ key_bytes hash code (height_of bytes) (hash_key_of bytes) (masks_of bytes) (root_of bytes)
+key-written : (hash code levels : ℕ) (bytes : List ℕ) → IsBytes bytes → Opens hash code levels bytes → bytes ≡ key_bytes hash code (height_of bytes) (hash_key_of bytes) (masks_of bytes) (root_of bytes)
 key-written hash code levels bytes b o =
     let laid = o.laid in
     let rest = key-rest bytes (omega arith) in
@@ -70,7 +70,7 @@ module _ (hash code levels h : ℕ) (hash_key masks root : List ℕ) (few : leve
       ∙ take_all 16 root (omega (arith, parts.rooted))
 
 -- an answer that is the rule's reads as a key what writing that key yields
-pub reads-keys : (hash code levels : ℕ) (bytes : List ℕ) (r : Result Key Refusal) → levels ≤ 8 → Bytes bytes → r ≡ open_rule hash code levels bytes → ReadsKeys hash code levels bytes r
+pub reads-keys : (hash code levels : ℕ) (bytes : List ℕ) (r : Result Key Refusal) → levels ≤ 8 → IsBytes bytes → r ≡ open_rule hash code levels bytes → ReadsKeys hash code levels bytes r
 reads-keys hash code levels bytes r few b is = record {
   written = λ key p.
       let o = open-to hash code levels bytes key (sym is ∙ p) in
@@ -88,16 +88,16 @@ reads-keys hash code levels bytes r few b is = record {
 }
 
 -- two bytes more in front of what follows them
-leaf-more : (bytes : List ℕ) → 8 ≤ length bytes → Bytes bytes → drop 6 bytes ≡ little_endian 2 (leaf_of bytes) ++ row_of bytes
+leaf-more : (bytes : List ℕ) → 8 ≤ length bytes → IsBytes bytes → drop 6 bytes ≡ little_endian 2 (leaf_of bytes) ++ row_of bytes
 leaf-more bytes h b = grind (arith, common_steps)
 
 -- what writing a release yields is read as that release
-pub written-reads : (count h leaf : ℕ) (row : List ℕ) → 1 ≤ count → count ≤ 256 → h ≤ 8 → ReleaseParts count h leaf row → release_rule count h (release_bytes leaf row) ≡ Ok (record { leaf = leaf; row = row })
+pub written-reads : (count h leaf : ℕ) (row : List ℕ) → 1 ≤ count + h → count ≤ 256 → h ≤ 8 → ReleaseParts count h leaf row → release_rule count h (release_bytes leaf row) ≡ Ok (record { leaf = leaf; row = row })
 written-reads count h leaf row some few low parts =
     let more = pow_mono low in
     search rules
 
-pub reads-releases : (count h : ℕ) (bytes : List ℕ) → 1 ≤ count → count ≤ 256 → h ≤ 8 → Bytes bytes → ReadsReleases count h bytes (release_rule count h bytes)
+pub reads-releases : (count h : ℕ) (bytes : List ℕ) → 1 ≤ count + h → count ≤ 256 → h ≤ 8 → IsBytes bytes → ReadsReleases count h bytes (release_rule count h bytes)
 reads-releases count h bytes some few low b =
     record {
       written = λ leaf row p.
@@ -115,6 +115,6 @@ reads-releases count h bytes some few low b =
     }
 
 -- an answer that is the rule's reads as a release what writing that release yields
-pub reads-releases-as : (count levels h : ℕ) (bytes : List ℕ) (r : Result Shown Refusal) → levels ≤ 8 → (1 ≤ count) × (count ≤ 2 ^ levels) → h ≤ 8 → Bytes bytes → r ≡ release_rule count h bytes → ReadsReleases count h bytes r
-reads-releases-as count levels h bytes r few many low b is =
-    subst (ReadsReleases count h bytes) (sym is) (reads-releases count h bytes many.0 (le_trans many.1 (pow_mono few)) low b)
+pub reads-releases-as : (count levels h : ℕ) (bytes : List ℕ) (r : Result Release Refusal) → levels ≤ 8 → 1 ≤ count + h → count ≤ 2 ^ levels → h ≤ 8 → IsBytes bytes → r ≡ release_rule count h bytes → ReadsReleases count h bytes r
+reads-releases-as count levels h bytes r few some many low b is =
+    subst (ReadsReleases count h bytes) (sym is) (reads-releases count h bytes some (le_trans many (pow_mono few)) low b)

@@ -5,7 +5,7 @@ use Rattle.records.specs.Causes.{Refuses}
 use Rattle.records.specs.Conditions.{WrongLength, WrongKind, WrongNumbers, WrongHeight, WrongKeyLength, WrongReleaseLength, NoSuchLeaf, header_causes, open_causes, parts_causes, release_causes}
 use Rattle.records.specs.Kinds.{kind_number}
 use Rattle.records.specs.Records.{field, key_length, release_length, hash_number_of, code_number_of, height_of, spare_of, leaf_of}
-use Rattle.records.specs.Rules.{bad_length, bad_kind, foreign, bad_height, header_rule, open_rule, parts_rule, release_rule}
+use Rattle.records.specs.Rules.{has_bad_length, has_bad_kind, is_foreign, has_bad_height, header_rule, open_rule, parts_rule, release_rule}
 use Rattle.records.specs.declared.kind.RecordKind.{RecordKind}
 use Rattle.records.specs.declared.kind.RecordKind.TheVariants as kind
 use Rattle.records.specs.declared.refusal.Refusal.TheVariants.{Length, Kind, Parameters, Height, Layout, Leaf}
@@ -19,15 +19,15 @@ at-least x y = grind (arith, nat_tests)
 
 pub header-refuses : (kind : RecordKind) (bytes : List ℕ) → Refuses (header_causes kind bytes) (header_rule kind bytes)
 header-refuses kind bytes =
-    refuses-more (bad_length bytes) (WrongLength bytes) Length _ _ (Decides-or _ _ (Decides-ltb (length bytes) 10) (differs (field bytes 0 4) (length bytes)))
-    (refuses-more (bad_kind kind bytes) (WrongKind kind bytes) Kind _ _ (differs (field bytes 4 2) (kind_number kind)) (refuses-none (drop 6 bytes)))
+    refuses-more (has_bad_length bytes) (WrongLength bytes) Length _ _ (Decides-or _ _ (Decides-ltb (length bytes) 10) (differs (field bytes 0 4) (length bytes)))
+    (refuses-more (has_bad_kind kind bytes) (WrongKind kind bytes) Kind _ _ (differs (field bytes 4 2) (kind_number kind)) (refuses-none (drop 6 bytes)))
 
 pub open-refuses : (hash code levels : ℕ) (bytes : List ℕ) → Refuses (open_causes hash code levels bytes) (open_rule hash code levels bytes)
 open-refuses hash code levels bytes =
     refuses-after _ _ (header_rule kind.Key bytes) _ (header-refuses kind.Key bytes)
     (λ body is.
-    refuses-more (foreign hash code bytes) (WrongNumbers hash code bytes) Parameters _ _ (Decides-or _ _ (differs (hash_number_of bytes) hash) (differs (code_number_of bytes) code))
-    (refuses-more (bad_height bytes) (WrongHeight bytes) Height _ _
+    refuses-more (is_foreign hash code bytes) (WrongNumbers hash code bytes) Parameters _ _ (Decides-or _ _ (differs (hash_number_of bytes) hash) (differs (code_number_of bytes) code))
+    (refuses-more (has_bad_height bytes) (WrongHeight bytes) Height _ _
     (Decides-or _ _ (Decides-ltb (height_of bytes) 1) (Decides-or _ _ (Decides-ltb 8 (height_of bytes)) (differs (spare_of bytes) 0)))
     (refuses-more _ (WrongKeyLength levels bytes) Layout _ _ (differs (length bytes) (key_length (height_of bytes) levels)) (refuses-none _))))
 

@@ -6,10 +6,10 @@ use Rattle.tree.specs.Rows.{row_from}
 use Rattle.tree.proofs.Joining.{joined-push}
 
 -- the front of 8 bytes and k strings, written
-abbrev pub Shown : (ℕ → List ℕ) → List ℕ → List ℕ → ℕ → Type 0
-Shown f b₀ b k = Written b₀ b (take 8 b₀ ++ row_from f k) × (length (row_from f k) ≡ 16 * k)
+abbrev pub RowWritten : (ℕ → List ℕ) → List ℕ → List ℕ → ℕ → Type 0
+RowWritten f b₀ b k = Written b₀ b (take 8 b₀ ++ row_from f k) × (length (row_from f k) ≡ 16 * k)
 
-pub shown-more : (f : ℕ → List ℕ) (b₀ b b' s : List ℕ) (k : ℕ) → Shown f b₀ b k → 8 + 16 * (k + 1) ≤ length b₀ → s ≡ f k → length s ≡ 16 → Put b b' (8 + 16 * k) s → Shown f b₀ b' (k + 1)
+pub shown-more : (f : ℕ → List ℕ) (b₀ b b' s : List ℕ) (k : ℕ) → RowWritten f b₀ b k → 8 + 16 * (k + 1) ≤ length b₀ → s ≡ f k → length s ≡ 16 → Put b b' (8 + 16 * k) s → RowWritten f b₀ b' (k + 1)
 shown-more f b₀ b b' s k w room is long wrote =
     let front = take 8 b₀ in
     let sofar = row_from f k in
@@ -20,7 +20,7 @@ shown-more f b₀ b b' s k w room is long wrote =
       ap length (joined-push f k) ∙ length-append sofar (f k) ∙ omega (arith, w.1, ap length is),
     )
 
-pub shown-all : (f : ℕ → List ℕ) (b₀ b : List ℕ) (k n : ℕ) → Shown f b₀ b k → k ≡ n → 8 ≤ length b₀ → b ≡ (take 8 b₀ ++ row_from f n) ++ drop (8 + 16 * n) b₀
+pub shown-all : (f : ℕ → List ℕ) (b₀ b : List ℕ) (k n : ℕ) → RowWritten f b₀ b k → k ≡ n → 8 ≤ length b₀ → b ≡ (take 8 b₀ ++ row_from f n) ++ drop (8 + 16 * n) b₀
 shown-all f b₀ b k n w is room =
     let front = take 8 b₀ in
     let eight : length front ≡ 8 = length-take-le 8 b₀ room in

@@ -3,18 +3,18 @@ use Rattle.std.specs.Prelude.{ℕ, ◌^◌, ◌<◌, ◌≤◌, ◌≢◌, ◌�
 use Rattle.tree.specs.Nodes.{tallest}
 use Rattle.records.specs.Causes.{Cause, cause}
 use Rattle.records.specs.Kinds.{kind_number}
-use Rattle.records.specs.Records.{field, shortest_record, key_length, release_length}
+use Rattle.records.specs.Records.{named_length, named_kind, shortest_record, key_length, release_length}
 use Rattle.records.specs.Records.{hash_number_of, code_number_of, height_of, spare_of, leaf_of}
 use Rattle.records.specs.declared.kind.RecordKind.{RecordKind}
 use Rattle.records.specs.declared.kind.RecordKind.TheVariants as kind
 
 -- 6: fewer than 10 bytes, or a length field that differs from the number of bytes
 abbrev pub WrongLength : List ℕ → Type 0
-WrongLength bytes = (length bytes < shortest_record) ⊎ (field bytes 0 4 ≢ length bytes)
+WrongLength bytes = (length bytes < shortest_record) ⊎ (named_length bytes ≢ length bytes)
 
 -- 7: another kind of record than this one
 abbrev pub WrongKind : RecordKind → List ℕ → Type 0
-WrongKind kind bytes = field bytes 4 2 ≢ kind_number kind
+WrongKind kind bytes = named_kind bytes ≢ kind_number kind
 
 -- 8, of a key record: another hash or code number than these
 abbrev pub WrongNumbers : ℕ → ℕ → List ℕ → Type 0

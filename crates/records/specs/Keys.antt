@@ -12,6 +12,6 @@ key_of_height bytes height = record { bytes = bytes; height = height }
 
 -- what a release record holds: its leaf number, and a row with a string for each chain and then the
 -- siblings of the leaf's authentication path
-pub record Shown : Type 0 where
+pub record Release : Type 0 where
   pub leaf : ℕ
   pub row : List ℕ

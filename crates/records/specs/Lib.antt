@@ -1,6 +1,6 @@
 pub mod Causes
 pub mod Conditions
-pub mod Heads
+pub mod Headers
 pub mod Keys
 pub mod Kinds
 pub mod Reads

@@ -1,7 +1,7 @@
 -- Bytes are read as a record exactly when writing that record yields them.
 use Rattle.std.specs.Prelude.{◌≡◌, ℕ, ◌+◌, ◌*◌, ◌^◌, ◌<◌, ◌≤◌, List, length, Ok, Result}
 use Rattle.tree.specs.Nodes.{tallest}
-use Rattle.records.specs.Keys.{Key, Shown}
+use Rattle.records.specs.Keys.{Key, Release}
 use Rattle.records.specs.Records.{key_bytes, release_bytes, hash_key_of, masks_of, root_of}
 use Rattle.records.specs.declared.refusal.Refusal.{Refusal}
 
@@ -30,7 +30,7 @@ pub record ReleaseParts (count h leaf : ℕ) (row : List ℕ) : Type 0 where
   pub filled : length row ≡ 16 * (count + h)
 
 -- the answer r reads `bytes` as a release exactly when writing that release yields them
-pub record ReadsReleases (count h : ℕ) (bytes : List ℕ) (r : Result Shown Refusal) : Type 0 where
+pub record ReadsReleases (count h : ℕ) (bytes : List ℕ) (r : Result Release Refusal) : Type 0 where
   pub written : (leaf : ℕ) (row : List ℕ) → r ≡ Ok (record { leaf = leaf; row = row }) →
       ReleaseParts count h leaf row × (bytes ≡ release_bytes leaf row)
   pub read : (leaf : ℕ) (row : List ℕ) →

@@ -47,6 +47,14 @@ release_length count h = 8 + 16 * (count + h)
 abbrev pub longest_release : ℕ
 longest_release = 4232
 
+-- the length that a record names, in its bytes 0 to 3 (the length field)
+abbrev pub named_length : List ℕ → ℕ
+named_length bytes = field bytes 0 4
+
+-- the number of its kind, in bytes 4 and 5
+abbrev pub named_kind : List ℕ → ℕ
+named_kind bytes = field bytes 4 2
+
 -- the parts of a key record: its hash number
 abbrev pub hash_number_of : List ℕ → ℕ
 hash_number_of bytes = slice_index bytes 6

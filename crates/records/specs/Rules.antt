@@ -3,9 +3,9 @@
 use Rattle.std.specs.Prelude.{ℕ, ◌^◌, Bool, if◌then◌else◌, not, ◌||◌, List, length, drop, Ok, Err}
 use Rattle.std.specs.Prelude.{Result, ◌==◌, nat_le, nat_lt}
 use Rattle.tree.specs.Nodes.{tallest}
-use Rattle.records.specs.Keys.{Key, Shown}
+use Rattle.records.specs.Keys.{Key, Release}
 use Rattle.records.specs.Kinds.{kind_number}
-use Rattle.records.specs.Records.{field, shortest_record, key_length, release_length, leaf_of}
+use Rattle.records.specs.Records.{named_length, named_kind, shortest_record, key_length, release_length, leaf_of}
 use Rattle.records.specs.Records.{hash_number_of, code_number_of, height_of, spare_of, row_of}
 use Rattle.records.specs.declared.kind.RecordKind.{RecordKind}
 use Rattle.records.specs.declared.kind.RecordKind.TheVariants as kind
@@ -28,26 +28,26 @@ after (Ok x) next = next x
 after (Err e) next = Err e
 
 -- fewer than 10 bytes, or a length field that differs from the number of bytes
-abbrev pub bad_length : List ℕ → Bool
-bad_length bytes = nat_lt (length bytes) shortest_record || not (field bytes 0 4 == length bytes)
+abbrev pub has_bad_length : List ℕ → Bool
+has_bad_length bytes = nat_lt (length bytes) shortest_record || not (named_length bytes == length bytes)
 
 -- another kind than this one
-abbrev pub bad_kind : RecordKind → List ℕ → Bool
-bad_kind kind bytes = not (field bytes 4 2 == kind_number kind)
+abbrev pub has_bad_kind : RecordKind → List ℕ → Bool
+has_bad_kind kind bytes = not (named_kind bytes == kind_number kind)
 
 -- the body of a record of this kind
 abbrev pub header_rule : RecordKind → List ℕ → Result (List ℕ) Refusal
 header_rule kind bytes =
-    refuse (bad_length bytes) Length (refuse (bad_kind kind bytes) Kind (Ok (drop 6 bytes)))
+    refuse (has_bad_length bytes) Length (refuse (has_bad_kind kind bytes) Kind (Ok (drop 6 bytes)))
 
 -- another hash or code number in a key record than these
-abbrev pub foreign : ℕ → ℕ → List ℕ → Bool
-foreign hash code bytes =
+abbrev pub is_foreign : ℕ → ℕ → List ℕ → Bool
+is_foreign hash code bytes =
     not (hash_number_of bytes == hash) || not (code_number_of bytes == code)
 
 -- a height outside 1 to 8, or a spare byte other than 0
-abbrev pub bad_height : List ℕ → Bool
-bad_height bytes =
+abbrev pub has_bad_height : List ℕ → Bool
+has_bad_height bytes =
     nat_lt (height_of bytes) 1 || (nat_lt tallest (height_of bytes) || not (spare_of bytes == 0))
 
 -- a key record, read by a verifier with these hash and code numbers and levels: the key
@@ -55,19 +55,19 @@ abbrev pub open_rule : ℕ → ℕ → ℕ → List ℕ → Result Key Refusal
 open_rule hash code levels bytes =
     after (header_rule kind.Key bytes)
     (λ body.
-    refuse (foreign hash code bytes) Parameters
-    (refuse (bad_height bytes) Height
+    refuse (is_foreign hash code bytes) Parameters
+    (refuse (has_bad_height bytes) Height
     (refuse (not (length bytes == key_length (height_of bytes) levels)) Layout
     (Ok (record { bytes = bytes; height = height_of bytes })))))
 
 -- the leaf number and the strings of a release record with `count` chains, under a key of height h
-abbrev pub parts_rule : ℕ → ℕ → List ℕ → Result Shown Refusal
+abbrev pub parts_rule : ℕ → ℕ → List ℕ → Result Release Refusal
 parts_rule count h bytes =
     refuse (not (length bytes == release_length count h)) Layout
     (refuse (nat_le (2 ^ h) (leaf_of bytes)) Leaf
     (Ok (record { leaf = leaf_of bytes; row = row_of bytes })))
 
 -- a release record under a key of height h: as its own signer reads it
-abbrev pub release_rule : ℕ → ℕ → List ℕ → Result Shown Refusal
+abbrev pub release_rule : ℕ → ℕ → List ℕ → Result Release Refusal
 release_rule count h bytes =
     after (header_rule kind.Release bytes) (λ body. parts_rule count h bytes)

@@ -3,10 +3,10 @@
 ghost use Rattle.std.specs.Prelude.{◌≡◌, ◌≤◌, ◌<◌, ◌^◌, ◌++◌, length, take, drop};
 ghost use Rattle.std.specs.Option.{option_map};
 ghost use Rattle.strings.specs.Strings.{little_endian};
-ghost use Rattle.records.specs.Heads.{head_of};
+ghost use Rattle.records.specs.Headers.{split_header};
 ghost use Rattle.records.specs.Kinds.{kind_number};
 ghost use Rattle.records.specs.Rules.{seen, header_rule};
-ghost use Rattle.records.specs.Views.{head_by};
+ghost use Rattle.records.specs.Views.{header_of};
 
 use crate::{RecordKind, Refusal, layout};
 use strings::put;
@@ -23,11 +23,11 @@ pub struct Header<'a> {
     pub body: &'a [u8],
 }
 
-/// The header of a record, little-endian: its length in 4 bytes and its kind in 2 (`head_of` in
+/// The header of a record, little-endian: its length in 4 bytes and its kind in 2 (`split_header` in
 /// specs/). None where there are fewer than 6 bytes; it refuses nothing else. All reading of
 /// records begins here.
 pub fn split_header(bytes: &[u8]) -> Option<Header<'_>>
-    ensures { option_map head_by result ≡ head_of bytes.now }
+    ensures { option_map header_of result ≡ split_header bytes.now }
 {
     let [a, b, c, d, e, f, body @ ..] = bytes else {
         return None;

@@ -5,7 +5,7 @@ ghost use Rattle.records.specs.Keys.{key_of_height};
 ghost use Rattle.records.specs.Reads.{ReadsKeys};
 ghost use Rattle.records.specs.Records.{beside_masks, framed, key_bytes, hash_key_of, masks_of, root_of};
 ghost use Rattle.records.specs.Records.{shortest_record};
-ghost use Rattle.records.specs.Rules.{seen, foreign, bad_height, open_rule};
+ghost use Rattle.records.specs.Rules.{seen, is_foreign, has_bad_height, open_rule};
 ghost use Rattle.records.specs.declared.kind.RecordKind.TheVariants as kind;
 
 use crate::header::{body_of, write_header};
@@ -18,7 +18,7 @@ use tree::Parameters;
 // Whether the record names another hash or another code than these.
 fn is_foreign<H: ChainHash, C: Code>(bytes: &[u8]) -> bool
     requires { shortest_record ≤ length bytes.now }
-    ensures { result ≡ foreign H.ChainHash.NUMBER C.Code.NUMBER bytes.now }
+    ensures { result ≡ is_foreign H.ChainHash.NUMBER C.Code.NUMBER bytes.now }
 {
     bytes[layout::HASH_NUMBER] != H::NUMBER || bytes[layout::CODE_NUMBER] != C::NUMBER
 }
@@ -26,7 +26,7 @@ fn is_foreign<H: ChainHash, C: Code>(bytes: &[u8]) -> bool
 // Whether the height is outside 1 to 8, or the spare byte other than 0.
 fn has_bad_height(bytes: &[u8]) -> bool
     requires { shortest_record ≤ length bytes.now }
-    ensures { result ≡ bad_height bytes.now }
+    ensures { result ≡ has_bad_height bytes.now }
 {
     !(1..=TALLEST).contains(&bytes[layout::HEIGHT]) || bytes[layout::SPARE] != 0
 }

@@ -6,7 +6,7 @@ ghost use Rattle.tree.specs.Nodes.{tallest};
 ghost use Rattle.records.specs.Reads.{ReadsReleases};
 ghost use Rattle.records.specs.Records.{release_length, release_bytes};
 ghost use Rattle.records.specs.Rules.{seen, parts_rule, release_rule};
-ghost use Rattle.records.specs.Views.{shown_by};
+ghost use Rattle.records.specs.Views.{release_of};
 
 use crate::header::{body_of, write_header};
 use crate::{RecordKind, Refusal, layout, release_length};
@@ -29,7 +29,7 @@ pub struct Release<'a> {
 /// `release_length`, and then with 11, `Leaf`, a leaf number of 2^height or more.
 pub fn parts_of<C: Code>(height: u8, body: &[u8]) -> Result<Release<'_>, Refusal>
     ensures { (bytes : List ℕ) → body.now ≡ drop 6 bytes →
-        seen shown_by result ≡ parts_rule C.Code.COUNT height bytes }
+        seen release_of result ≡ parts_rule C.Code.COUNT height bytes }
 {
     let [low, high, row @ ..] = body else {
         return Err(Refusal::Layout);
@@ -49,9 +49,9 @@ pub fn parts_of<C: Code>(height: u8, body: &[u8]) -> Result<Release<'_>, Refusal
 /// in specs/). Refuses, in this order: with 6, `Length`, and 7, `Kind`, as `body_of`; with 10,
 /// `Layout`, and 11, `Leaf`, as `parts_of`.
 pub fn read_release<C: Code>(height: u8, bytes: &[u8]) -> Result<Release<'_>, Refusal>
-    ensures answer { seen shown_by result ≡ release_rule C.Code.COUNT height bytes.now }
+    ensures answer { seen release_of result ≡ release_rule C.Code.COUNT height bytes.now }
     ensures reads { height ≤ tallest →
-        ReadsReleases C.Code.COUNT height bytes.now (seen shown_by result) }
+        ReadsReleases C.Code.COUNT height bytes.now (seen release_of result) }
 {
     let body = body_of(bytes, RecordKind::Release)?;
     parts_of::<C>(height, body)

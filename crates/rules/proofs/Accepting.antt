@@ -1,5 +1,5 @@
 -- Verify accepts the record of each leaf that is made as sign makes it.
-use Rattle.std.proofs.Common.{◌≡◌, ℕ, ◌+◌, ◌*◌, ◌^◌, ◌<◌, ◌≤◌, true, not, List, length, take, Ok, sym, refl, ap, ◌∙◌}
+use Rattle.std.proofs.Common.{◌≡◌, ℕ, ◌+◌, ◌*◌, ◌^◌, ◌<◌, ◌≤◌, true, not, List, length, take, Ok, sym, refl, ap, ◌∙◌, arith}
 use Rattle.std.specs.Str.{bytes_eq}
 use Rattle.std.proofs.lemmas.Bool.{cond-false}
 use Rattle.std.proofs.lemmas.Slice.Eq.{bytes_eq-Decides}
@@ -12,10 +12,10 @@ use Rattle.tree.specs.Meaning.{Hash, Code}
 use Rattle.tree.specs.Nodes.{Parameters}
 use Rattle.tree.specs.Rebuilt.{rebuilt}
 use Rattle.verifier.proofs.Facts.{read-as-released}
-use Rattle.records.specs.Keys.{Shown}
+use Rattle.records.specs.Keys.{Release}
 use Rattle.records.specs.Reads.{KeyParts}
 use Rattle.records.specs.Records.{release_bytes, root_of}
-use Rattle.verifier.specs.Rules.{suited, root_shown, verify_rule}
+use Rattle.verifier.specs.Rules.{suits, root_shown, verify_rule}
 use Rattle.records.specs.Rules.{refuse}
 use Rattle.records.specs.declared.refusal.Refusal.TheVariants.{Root}
 use Rattle.records.proofs.Facts.{after-at}
@@ -38,7 +38,7 @@ module _ (hash : Hash) (code : Code) (s : Signing) (all : Strings hash s.origin)
   abbrev laid : KeyParts code.levels s.origin.height s.origin.hash_key (take (32 * (s.origin.height + code.levels)) s.origin.masks) s.root
   laid = parts hash code s tall few all.keyed.0 all.masked.0 long
 
-  pub key-suits : suited hash.number code.number code.levels (own_key hash code s) ≡ true
+  pub key-suits : suits hash.number code.number code.levels (own_key hash code s) ≡ true
   unfolding key_record
   key-suits = suited-from hash.number code.number code.levels (own_key hash code s) (written-opens hash.number code.number code.levels s.origin.height _ _ _ few laid) refl
 
@@ -53,17 +53,17 @@ module _ (hash : Hash) (code : Code) (s : Signing) (all : Strings hash s.origin)
   unfolding key_record
   key-root = written-root hash.number code.number code.levels s.origin.height _ _ _ few laid
 
-  pub verifying : (i : ℕ) (stamp : List ℕ) → 1 ≤ code.count → code.count ≤ 256 → ((k : ℕ) → code.digit stamp k ≤ code.top) → Rooted hash code s → i < 2 ^ s.origin.height → verify_rule hash code (own_key hash code s) stamp (release_bytes i (shown_row hash code s.origin i stamp)) ≡ Ok i
-  verifying i stamp some many low rooted left =
+  pub verifying : (i : ℕ) (stamp : List ℕ) → code.count ≤ 256 → ((k : ℕ) → code.digit stamp k ≤ code.top) → Rooted hash code s → i < 2 ^ s.origin.height → verify_rule hash code (own_key hash code s) stamp (release_bytes i (shown_row hash code s.origin i stamp)) ≡ Ok i
+  verifying i stamp many low rooted left =
       let row = shown_row hash code s.origin i stamp in
-      let shown : Shown = record { leaf = i; row = row } in
+      let shown : Release = record { leaf = i; row = row } in
       let root = root_shown hash code (own_key hash code s) stamp shown in
       let same : root ≡ root_of (key_record hash code s) = key-shows stamp i row ∙ release-leads hash code s.origin all tall.1 few i stamp left low ∙ sym rooted ∙ sym key-root in
       after-at _ shown (λ release. refuse (not (bytes_eq (root_shown hash code (own_key hash code s) stamp release) (root_of (key_record hash code s)))) Root (Ok release.leaf))
       (read-as-released hash.number code (own_key hash code s) (release_bytes i row) key-suits
-      ∙ written-reads code.count s.origin.height i row some many tall.1 (record { numbered = left; filled = row-filled hash code s.origin i stamp all tall.1 few }))
+      ∙ written-reads code.count s.origin.height i row (omega (arith, tall.0)) many tall.1 (record { numbered = left; filled = row-filled hash code s.origin i stamp all tall.1 few }))
       ∙ cond-false (not (bytes_eq root (root_of (key_record hash code s)))) _ _ (ap not ((bytes_eq-Decides root (root_of (key_record hash code s))).1 same))
 
-  pub accepting : (i : ℕ) (stamp : List ℕ) → 1 ≤ code.count → code.count ≤ 256 → ((k : ℕ) → code.digit stamp k ≤ code.top) → Rooted hash code s → i < 2 ^ s.origin.height → Accepts hash code s stamp (release_bytes i (shown_row hash code s.origin i stamp)) i
-  accepting i stamp some many low rooted left =
-      (own_key hash code s, record-opens hash code s tall few all.keyed.0 all.masked.0 long, verifying i stamp some many low rooted left)
+  pub accepting : (i : ℕ) (stamp : List ℕ) → code.count ≤ 256 → ((k : ℕ) → code.digit stamp k ≤ code.top) → Rooted hash code s → i < 2 ^ s.origin.height → Accepts hash code s stamp (release_bytes i (shown_row hash code s.origin i stamp)) i
+  accepting i stamp many low rooted left =
+      (own_key hash code s, record-opens hash code s tall few all.keyed.0 all.masked.0 long, verifying i stamp many low rooted left)

@@ -13,7 +13,7 @@ use Rattle.growth.specs.Grown.{parameters}
 use Rattle.records.specs.declared.kind.RecordKind.TheVariants as kind
 use Rattle.tree.specs.Rebuilt.{rebuilt}
 use Rattle.records.specs.Rules.{header_rule, parts_rule, release_rule, refuse, after}
-use Rattle.verifier.specs.Rules.{suited, root_shown, verify_rule}
+use Rattle.verifier.specs.Rules.{suits, root_shown, verify_rule}
 use Rattle.records.specs.declared.refusal.Refusal.TheVariants.{Parameters, Root}
 use Rattle.rules.specs.Rules.{own_key}
 use Rattle.rules.specs.States.{Signing}
@@ -59,5 +59,5 @@ module _ (hash : Hash) (code : Code) (s : Signing) (all : Strings hash s.origin)
   own-reads stamp bytes =
       let root = key-root hash code s all tall few long in
       let parts = parts_rule code.count s.origin.height bytes in
-      let reads = cond-false (not (suited hash.number code.number code.levels (own_key hash code s))) (Err Parameters) parts (not_from_true _ (key-suits hash code s all tall few long)) in
+      let reads = cond-false (not (suits hash.number code.number code.levels (own_key hash code s))) (Err Parameters) parts (not_from_true _ (key-suits hash code s all tall few long)) in
       λ i. after (after (header_rule kind.Release bytes) (λ body. reads i)) (λ release. refuse (not (bytes_eq (own-shows stamp release.leaf release.row i) (root i))) Root (Ok release.leaf))

@@ -10,7 +10,7 @@ use Rattle.tree.specs.Meaning.{Hash, Code}
 use Rattle.tree.specs.Rebuilt.{rebuilt}
 use Rattle.growth.specs.Grown.{parameters}
 use Rattle.records.specs.declared.kind.RecordKind.TheVariants as kind
-use Rattle.records.specs.Keys.{Shown}
+use Rattle.records.specs.Keys.{Release}
 use Rattle.records.specs.Records.{release_length, leaf_of, row_of}
 use Rattle.verifier.specs.Rules.{verify_rule}
 use Rattle.records.specs.Rules.{after, refuse, header_rule, release_rule}
@@ -21,7 +21,7 @@ use Rattle.rules.specs.Rules.{own_key, traced_by, trace_answer, report_after, tr
 use Rattle.rules.specs.States.{Signing}
 
 -- what a signer reads of a record of its own: the leaf number, and the strings that follow it
-pub own-shown : (count h : ℕ) (bytes : List ℕ) (shown : Shown) → release_rule count h bytes ≡ Ok shown → shown ≡ record { leaf = leaf_of bytes; row = row_of bytes }
+pub own-shown : (count h : ℕ) (bytes : List ℕ) (shown : Release) → release_rule count h bytes ≡ Ok shown → shown ≡ record { leaf = leaf_of bytes; row = row_of bytes }
 own-shown count h bytes shown is =
     let head = after-ok (header_rule kind.Release bytes) _ is in
     let long = passes (not (eqb (length bytes) (release_length count h))) Layout _ head.2 in
@@ -79,7 +79,7 @@ module _ (hash : Hash) (code : Code) (s : Signing) (stamp bytes report : List �
     pub unread : (e : Refusal) → Err e ≡ release_rule code.count s.origin.height bytes → ByRule (Err e) report
     unread e is = refused e (read ∙ sym (stops (release_rule code.count s.origin.height bytes) e _ is))
 
-    module _ (shown : Shown) (is : Ok shown ≡ release_rule code.count s.origin.height bytes) (root : List ℕ) (leads : root ≡ rebuilt hash code (parameters s.origin) shown.leaf stamp shown.row) where
+    module _ (shown : Release) (is : Ok shown ≡ release_rule code.count s.origin.height bytes) (root : List ℕ) (leads : root ≡ rebuilt hash code (parameters s.origin) shown.leaf stamp shown.row) where
       tested : verified ≡ refuse (not (bytes_eq root s.root)) Root (Ok shown.leaf)
       tested = read ∙ after-at (release_rule code.count s.origin.height bytes) shown _ (sym is) ∙ ap (λ r. refuse (not (bytes_eq r s.root)) Root (Ok shown.leaf)) (sym leads)
 

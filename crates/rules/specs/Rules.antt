@@ -26,8 +26,8 @@ abbrev pub plan_rule : ℕ → Result ℕ Refusal
 plan_rule height = if nat_lt height 1 || nat_lt tallest height then Err Plan else Ok height
 
 -- the maker that begin gives: no leaf is in, and nothing is held
-abbrev pub begin_rule : Origin → Making
-begin_rule origin = record { origin = origin; grown = 0; nodes = replicate nodes_size 0 }
+abbrev pub begin_state : Origin → Making
+begin_state origin = record { origin = origin; grown = 0; nodes = replicate nodes_size 0 }
 
 -- the maker with one leaf more, its next
 abbrev pub leaf_more : Hash → Code → Making → Making

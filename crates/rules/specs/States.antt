@@ -1,6 +1,6 @@
 -- What a maker and a signer hold, as values.
 use Rattle.std.specs.Prelude.{◌≡◌, ℕ, ◌≤◌, Bool, true, false, List, length, Some, None, Option}
-use Rattle.strings.specs.Strings.{Bytes, Str}
+use Rattle.strings.specs.Strings.{IsBytes, IsString}
 use Rattle.tree.specs.Nodes.{tallest}
 use Rattle.growth.specs.Grown.{masks_size}
 use Rattle.growth.specs.declared.origin.Origin.{Origin}
@@ -9,9 +9,9 @@ use Rattle.growth.specs.declared.origin.Origin.{Origin}
 -- and a right one for each of 16 levels
 pub record Begun (o : Origin) : Type 0 where
   pub tall : (1 ≤ o.height) × (o.height ≤ tallest)
-  pub seeded : Str o.seed
-  pub keyed : Str o.hash_key
-  pub masked : (length o.masks ≡ masks_size) × Bytes o.masks
+  pub seeded : IsString o.seed
+  pub keyed : IsString o.hash_key
+  pub masked : (length o.masks ≡ masks_size) × IsBytes o.masks
 
 -- a key that is being grown: what it is grown from, how many leaves are in, and the row of nodes
 -- that are held (the treehash stack)

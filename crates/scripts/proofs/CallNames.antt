@@ -4,7 +4,7 @@ use Rattle.std.proofs.lemmas.Bool.{cases_Bool}
 use Rattle.std.proofs.lemmas.Slice.Eq.{bytes_eq-Decides}
 use Rattle.std.specs.Str.{IsUtf8, bytes_eq}
 use Rattle.scripts.specs.Calls.{read_call}
-use Rattle.scripts.specs.Lines.{no_call, words_line}
+use Rattle.scripts.specs.Lines.{not_a_call, words_line}
 use Rattle.scripts.specs.Words.{word_of, after_word}
 
 module _ (word : List ℕ) (bad : IsUtf8 word → ⊥) where
@@ -21,5 +21,5 @@ module _ (word : List ℕ) (bad : IsUtf8 word → ⊥) where
   unfolding lib.Utf8.encode
   not-begin = other (codes "begin") (codes "begin", (refl, refl))
 
-pub no-words : (text : List ℕ) → (IsUtf8 (word_of text) → ⊥) → words_line text ≡ no_call
+pub no-words : (text : List ℕ) → (IsUtf8 (word_of text) → ⊥) → words_line text ≡ not_a_call
 no-words text bad = rw (not-begin (word_of text) bad, no-name (word_of text) bad (after_word text))

@@ -16,14 +16,14 @@ use Rattle.scripts.specs.declared.line.Line.TheVariants as line
 -- what a line asks for
 pub data Meant : Type 0 where
   nothing : Meant
-  no_call : Meant
+  not_a_call : Meant
   begins : Begin → Meant
   calls : Said → Meant
 
 -- what a line that was read asks for
 abbrev pub line_of : Line → Meant
 line_of line.Silent = nothing
-line_of line.NoCall = no_call
+line_of line.NotACall = not_a_call
 line_of (line.Begin b) = begins b
 line_of (line.Call c) = calls (said c)
 
@@ -56,12 +56,12 @@ read_begin text =
 -- a begin, where it was read
 abbrev pub begin_line : Option Begin → Meant
 begin_line (Some b) = begins b
-begin_line None = no_call
+begin_line None = not_a_call
 
 -- a call, where it was read
 abbrev pub call_line : Option Said → Meant
 call_line (Some c) = calls c
-call_line None = no_call
+call_line None = not_a_call
 
 -- a line of words: begin, or another call
 abbrev pub words_line : List ℕ → Meant
@@ -73,4 +73,4 @@ words_line text =
 abbrev pub line_rule : List ℕ → Meant
 line_rule text =
     if length text == 0 || slice_index text 0 == number_sign then nothing else
-    if nat_lt longest_line (length text) then no_call else words_line text
+    if nat_lt longest_line (length text) then not_a_call else words_line text

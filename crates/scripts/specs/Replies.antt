@@ -54,7 +54,7 @@ pub data Told : Type 0 where
   refused : Refusal → Told
   unknown_scheme : Told
   not_now : Told
-  no_call : Told
+  not_a_call : Told
 
 -- what an answer tells
 abbrev pub told : Answer → Told
@@ -70,7 +70,7 @@ told (Verdict numbers report) = verdict numbers report
 told (Refused e) = refused e
 told UnknownScheme = unknown_scheme
 told NotNow = not_now
-told NotACall = no_call
+told NotACall = not_a_call
 
 -- what a begin is answered that begins no key
 abbrev pub not_begun_reply : NotBegun → Told

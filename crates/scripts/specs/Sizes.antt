@@ -13,9 +13,10 @@ longest_record = 32768
 abbrev pub most_room : ℕ
 most_room = 65536
 
--- the largest number of one byte, and of two: no leaf number is larger
+-- the largest number of one byte
 abbrev pub largest_byte : ℕ
 largest_byte = 255
 
+-- the largest number that a call takes for a leaf: it has two bytes
 abbrev pub largest_leaf : ℕ
 largest_leaf = 65535

@@ -5,7 +5,7 @@ use Rattle.std.specs.List.{flat_map}
 use Rattle.strings.specs.Hex.{hex_text}
 use Rattle.records.specs.Refusals.{refusal_number}
 use Rattle.scripts.specs.Replies.{Held, Told, begun, grown, held, finished, keyed, signed, next}
-use Rattle.scripts.specs.Replies.{gone, verdict, refused, unknown_scheme, not_now, no_call}
+use Rattle.scripts.specs.Replies.{gone, verdict, refused, unknown_scheme, not_now, not_a_call}
 
 -- two texts with a space between them
 infixr 65 ◌␣◌
@@ -36,4 +36,4 @@ line_text (verdict n report) =
 line_text (refused e) = codes "refused" ␣ decimal (refusal_number e)
 line_text unknown_scheme = codes "unknown scheme"
 line_text not_now = codes "not now"
-line_text no_call = codes "not a call"
+line_text not_a_call = codes "not a call"

@@ -2,10 +2,8 @@
 
 use crate::NotBegun;
 use compare::REPORT;
+use growth::HELD_LEVELS;
 use records::Refusal;
-
-/// How many levels a tree has from its root to its leaves, at most: 0 to 8.
-pub(crate) const HELD_LEVELS: usize = 9;
 
 /// A node that a maker holds.
 #[derive(Clone, Copy)]

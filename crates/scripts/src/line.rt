@@ -19,7 +19,7 @@ pub enum Line<'a> {
     /// Nothing to answer: the line is empty or begins with `#`.
     Silent,
     /// Not a call: the line is longer than `LONGEST`, or its words are none of a call's.
-    NoCall,
+    NotACall,
     /// A key is to be begun.
     Begin(Begin),
     /// A call of a key that is begun.
@@ -56,20 +56,20 @@ impl<'a> Line<'a> {
             return Line::Silent;
         }
         if text.len() > LONGEST {
-            return Line::NoCall;
+            return Line::NotACall;
         }
         let (name, words) = Words::split(text);
         let Ok(name) = str::from_utf8(name) else {
-            return Line::NoCall;
+            return Line::NotACall;
         };
         match name {
             "begin" => match read_begin(words) {
                 Some(begin) => Line::Begin(begin),
-                None => Line::NoCall,
+                None => Line::NotACall,
             },
             _ => match Call::read(name, words, store) {
                 Some(call) => Line::Call(call),
-                None => Line::NoCall,
+                None => Line::NotACall,
             },
         }
     }

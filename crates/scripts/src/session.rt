@@ -2,7 +2,7 @@
 
 ghost use Rattle.std.specs.Prelude.{◌≡◌};
 ghost use Rattle.tree.specs.Meaning.{hash_of, code_of};
-ghost use Rattle.rules.specs.Rules.{begin_rule};
+ghost use Rattle.rules.specs.Rules.{begin_state};
 ghost use Rattle.histories.specs.Histories.{growing};
 ghost use Rattle.signer.specs.Views.{height_of_plan};
 ghost use Rattle.scripts.specs.Calls.{said};
@@ -34,9 +34,9 @@ pub enum Session<H: TreeHash, C: Code> {
 }
 
 impl<H: TreeHash, C: Code> Session<H, C> {
-    /// Begins a key: no leaf is in. Rule: `begin_rule`.
+    /// Begins a key: no leaf is in. Rule: `begin_state`.
     pub fn begin(plan: Plan, begin: &Begin) -> Session<H, C>
-        ensures { state_of result ≡ growing (begin_rule
+        ensures { state_of result ≡ growing (begin_state
             (record {
               seed = begin.now.seed;
               hash_key = begin.now.hash_key;

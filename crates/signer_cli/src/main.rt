@@ -72,7 +72,7 @@ impl<'r> Console<'r> {
         }
         match Line::read(self.line.as_slice(), &mut self.record) {
             Line::Silent => Ok(Heard::Done),
-            Line::NoCall => {
+            Line::NotACall => {
                 println!(self.rt; "{}", Answer::NotACall)?;
                 Ok(Heard::Done)
             }

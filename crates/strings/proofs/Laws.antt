@@ -9,7 +9,7 @@ use Rattle.std.proofs.lemmas.List.Edits.{fill_by_more}
 use Rattle.std.proofs.lemmas.List.{places, same_lists, take-append-drop, length-append, take_at, drop_at, drop-drop, same_from_push, drop-replicate, take-replicate}
 use Rattle.std.proofs.ByRecursion.{All-take, All-drop, All-from_get_or}
 use Rattle.std.proofs.lemmas.List.FromFn.{length-map-range_with_len, map-range_with_len_more, fill_by_all}
-use Rattle.strings.specs.Strings.{Bytes, Str, zero_string, xor, little_endian, numeral, string_at, put_string}
+use Rattle.strings.specs.Strings.{IsBytes, IsString, zero_string, xor, little_endian, numeral, string_at, put_string}
 
 pub length-xor : (s m : List ℕ) → length (xor s m) ≡ length s
 length-xor [] m = refl
@@ -31,31 +31,31 @@ xor-back (x ∷ s) (y ∷ m) = λ i. (xor_assoc x y y ∙ ap (bit_xor x) (xor_se
 pub xor-injective : (s t m : List ℕ) → xor s m ≡ xor t m → s ≡ t
 xor-injective s t m e = sym (xor-back s m) ∙ ap (λ u. xor u m) e ∙ xor-back t m
 
-pub xor_bytes : (s m : List ℕ) → Bytes s → Bytes m → Bytes (xor s m)
+pub xor_bytes : (s m : List ℕ) → IsBytes s → IsBytes m → IsBytes (xor s m)
 xor_bytes [] m a b = tt
 xor_bytes (x ∷ s) [] a b = a
 xor_bytes (x ∷ s) (y ∷ m) a b = (xor_lt 8 x y a.0 b.0, xor_bytes s m a.1 b.1)
 
-pub xor-str : (s m : List ℕ) → Str s → Str m → Str (xor s m)
+pub xor-str : (s m : List ℕ) → IsString s → IsString m → IsString (xor s m)
 xor-str s m a b = (length-xor s m ∙ a.0, xor_bytes s m a.1 b.1)
 
 -- the bytes of a list that is given by f, and a byte at any place: 0 past the end
-pub bytes-map : (f : ℕ → ℕ) (js : List ℕ) → ((j : ℕ) → f j < 256) → Bytes (map f js)
+pub bytes-map : (f : ℕ → ℕ) (js : List ℕ) → ((j : ℕ) → f j < 256) → IsBytes (map f js)
 bytes-map f [] small = tt
 bytes-map f (j ∷ js) small = (small j, bytes-map f js small)
 
-pub byte-below : (s : List ℕ) (j : ℕ) → Bytes s → get_or s j 0 < 256
+pub byte-below : (s : List ℕ) (j : ℕ) → IsBytes s → get_or s j 0 < 256
 byte-below [] j b = omega arith
 byte-below (x ∷ s) zero b = b.0
 byte-below (x ∷ s) (suc j) b = byte-below s j b.1
 
-pub bytes-little_endian : (k n : ℕ) → Bytes (little_endian k n)
+pub bytes-little_endian : (k n : ℕ) → IsBytes (little_endian k n)
 bytes-little_endian k n = bytes-map (λ j. n / 256 ^ j % 256) (range_with_len 0 k) (λ j. omega arith)
 
 pub length-little_endian : (k n : ℕ) → length (little_endian k n) ≡ k
 length-little_endian k n = length-map-range_with_len (λ j. n / 256 ^ j % 256) 0 k
 
-pub numeral-str : (n : ℕ) → Str (numeral n)
+pub numeral-str : (n : ℕ) → IsString (numeral n)
 unfolding numeral
 numeral-str n = (length-little_endian 16 n, bytes-little_endian 16 n)
 
@@ -80,7 +80,7 @@ module _ (w : ℕ) where
 pub length-string_at : (bytes : List ℕ) (i : ℕ) → 16 * i + 16 ≤ length bytes → length (string_at bytes i) ≡ 16
 length-string_at bytes i h = search (rules, places)
 
-pub string_at-str : (bytes : List ℕ) (i : ℕ) → 16 * i + 16 ≤ length bytes → Bytes bytes → Str (string_at bytes i)
+pub string_at-str : (bytes : List ℕ) (i : ℕ) → 16 * i + 16 ≤ length bytes → IsBytes bytes → IsString (string_at bytes i)
 string_at-str bytes i h b = (length-string_at bytes i h, All-take (λ x. x < 256) 16 (drop (16 * i) bytes) (All-drop (λ x. x < 256) (16 * i) bytes b))
 
 pub length-put_string : (bytes : List ℕ) (i : ℕ) (s : List ℕ) → 16 * i + 16 ≤ length bytes → length s ≡ 16 → length (put_string bytes i s) ≡ length bytes
@@ -125,7 +125,7 @@ pub edited-all : (f : ℕ → ℕ) (old new : List ℕ) (n j : ℕ) → length o
 edited-all f old new n j e h s = fill_by_all f new n 0 (s.0 ∙ e) (λ k g. s.1 k (omega arith))
 
 -- an array of 16 bytes is a string
-pub str-from : (s : List ℕ) → length s ≡ 16 → ((i : ℕ) → get_or s i 0 < 256) → Str s
+pub str-from : (s : List ℕ) → length s ≡ 16 → ((i : ℕ) → get_or s i 0 < 256) → IsString s
 str-from s long small = (long, All-from_get_or (λ b. b < 256) s 0 (λ i h. small i))
 
 -- each string of a row of zeros is the zero string

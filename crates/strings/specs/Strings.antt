@@ -4,12 +4,12 @@ use Rattle.std.specs.Prelude.{map, length, take, drop, replicate, bit_xor}
 use Rattle.std.specs.List.{range_with_len, AllByRecursion}
 
 -- a byte is a number below 256
-abbrev pub Bytes : List ℕ → Type 0
-Bytes s = AllByRecursion (λ b. b < 256) s
+abbrev pub IsBytes : List ℕ → Type 0
+IsBytes s = AllByRecursion (λ b. b < 256) s
 
 -- a string: 16 bytes
-abbrev pub Str : List ℕ → Type 0
-Str s = (length s ≡ 16) × Bytes s
+abbrev pub IsString : List ℕ → Type 0
+IsString s = (length s ≡ 16) × IsBytes s
 
 -- the string of zeros
 abbrev pub zero_string : List ℕ

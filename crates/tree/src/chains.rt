@@ -40,7 +40,7 @@ pub fn raise_to_top<H: ChainHash, C: Code>(
 /// Fills the row, 4,096 bytes, with the one-time strings of a leaf (`one_time` in specs/). `shown`
 /// has a string of 16 bytes for each chain, at the height of the stamp's digit; each is raised to
 /// the top of its chain. Past the last chain the row is zero: the L-tree wants 2^levels strings.
-pub fn one_time_strings<H: ChainHash, C: Code>(
+pub fn fill_one_time_strings<H: ChainHash, C: Code>(
     key: &[u8; 16],
     stamp: &[u8; 16],
     shown: &[u8],

@@ -6,7 +6,7 @@ ghost use Rattle.tree.specs.Rebuilt.{rebuilt};
 ghost use Rattle.tree.specs.Views.{parameters_of};
 
 use crate::Parameters;
-use crate::chains::one_time_strings;
+use crate::chains::fill_one_time_strings;
 use crate::rows::WORK;
 use codes::Code;
 use hashes::TreeHash;
@@ -28,7 +28,7 @@ impl Parameters<'_> {
             leaf stamp.now row.now }
     {
         let mut strings = [0; WORK];
-        one_time_strings::<H, C>(self.hash_key, stamp, row, &mut strings);
+        fill_one_time_strings::<H, C>(self.hash_key, stamp, row, &mut strings);
         let start = self.fold::<H>(self.height as usize, C::LEVELS as usize, &mut strings);
         self.climb_path::<H, C>(leaf, &start, row)
     }

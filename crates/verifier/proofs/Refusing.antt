@@ -15,11 +15,11 @@ use Rattle.records.proofs.Causing.{refuses-none, refuses-more, refuses-after}
 use Rattle.records.proofs.Facts.{open-to}
 use Rattle.records.proofs.Refusing.{header-refuses, parts-refuses}
 use Rattle.verifier.specs.Conditions.{WrongRoot, Opening, OpenedWith, WrongOpening, read_causes, verify_causes}
-use Rattle.verifier.specs.Rules.{suited, read_rule, root_shown, verify_rule}
+use Rattle.verifier.specs.Rules.{suits, read_rule, root_shown, verify_rule}
 use Rattle.verifier.proofs.Facts.{suited-from, suited-to, read-to}
 
 -- a key suits a verifier with the numbers and levels that it was opened with, and no other
-suits-same : (hash code levels : ℕ) (by : Opening) (key : Key) → OpenedWith by key → Decides (suited hash code levels key) ((by.hash ≡ hash) × ((by.code ≡ code) × (by.levels ≡ levels)))
+suits-same : (hash code levels : ℕ) (by : Opening) (key : Key) → OpenedWith by key → Decides (suits hash code levels key) ((by.hash ≡ hash) × ((by.code ≡ code) × (by.levels ≡ levels)))
 suits-same hash code levels by key opened =
     let o = open-to by.hash by.code by.levels key.bytes key opened in (
       λ suits. let s = suited-to hash code levels key suits in (sym o.0.hashed ∙ s.0.hashed, (sym o.0.coded ∙ s.0.coded, omega (arith, o.0.laid, s.0.laid))),
@@ -37,7 +37,7 @@ one-differs a b c x y z unlike =
     (λ other. inl other)
     (cases_eq a x)
 
-suits-opened : (hash : ℕ) (code : Code) (by : Opening) (key : Key) → OpenedWith by key → Decides (not (suited hash code.number code.levels key)) (WrongOpening hash code by)
+suits-opened : (hash : ℕ) (code : Code) (by : Opening) (key : Key) → OpenedWith by key → Decides (not (suits hash code.number code.levels key)) (WrongOpening hash code by)
 suits-opened hash code by key opened =
     Decides-like _ (one-differs by.hash by.code by.levels hash code.number code.levels)
     (λ other same. ⊎_elim (λ h. h same.0) (λ more. ⊎_elim (λ c. c same.1.0) (λ l. l same.1.1) more) other)

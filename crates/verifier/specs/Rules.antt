@@ -5,7 +5,7 @@ use Rattle.std.specs.Str.{bytes_eq}
 use Rattle.tree.specs.Meaning.{Hash, Code}
 use Rattle.tree.specs.Nodes.{Parameters}
 use Rattle.tree.specs.Rebuilt.{rebuilt}
-use Rattle.records.specs.Keys.{Key, Shown}
+use Rattle.records.specs.Keys.{Key, Release}
 use Rattle.records.specs.Records.{hash_key_of, masks_of, root_of}
 use Rattle.records.specs.Rules.{refuse, after, header_rule, open_rule, parts_rule}
 use Rattle.records.specs.declared.kind.RecordKind.TheVariants as kind
@@ -18,15 +18,15 @@ of_height (Ok key) h = key.height == h
 of_height (Err e) h = false
 
 -- whether a verifier with these numbers and levels opens the key too
-abbrev pub suited : ℕ → ℕ → ℕ → Key → Bool
-suited hash code levels key = of_height (open_rule hash code levels key.bytes) key.height
+abbrev pub suits : ℕ → ℕ → ℕ → Key → Bool
+suits hash code levels key = of_height (open_rule hash code levels key.bytes) key.height
 
 -- a release record, read under an opened key: its leaf number and its row of strings
-abbrev pub read_rule : ℕ → Code → Key → List ℕ → Result Shown Refusal
+abbrev pub read_rule : ℕ → Code → Key → List ℕ → Result Release Refusal
 read_rule hash code key bytes =
     after (header_rule kind.Release bytes)
     (λ body.
-    refuse (not (suited hash code.number code.levels key)) refusal.Parameters
+    refuse (not (suits hash code.number code.levels key)) refusal.Parameters
     (parts_rule code.count key.height bytes))
 
 -- the parameters of the tree, as a key record holds them
@@ -40,7 +40,7 @@ parameters_in key =
 
 -- the root that a release leads to, under the parameters of a key: over its chains, the L-tree
 -- inside the leaf and the authentication path
-abbrev pub root_shown : Hash → Code → Key → List ℕ → Shown → List ℕ
+abbrev pub root_shown : Hash → Code → Key → List ℕ → Release → List ℕ
 root_shown hash code key stamp release =
     rebuilt hash code (parameters_in key) release.leaf stamp release.row
 

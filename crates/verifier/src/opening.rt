@@ -3,7 +3,7 @@
 ghost use Rattle.std.specs.Prelude.{◌≡◌, ℕ, Ok, ◌↔◌, IsTrue};
 ghost use Rattle.records.specs.Reads.{ReadsKeys};
 ghost use Rattle.records.specs.Rules.{seen, open_rule};
-ghost use Rattle.verifier.specs.Rules.{suited};
+ghost use Rattle.verifier.specs.Rules.{suits};
 ghost use Rattle.verifier.specs.Views.{key_of};
 
 use crate::OpenedKey;
@@ -26,10 +26,10 @@ pub fn open<H: ChainHash, C: Code>(bytes: &[u8]) -> Result<OpenedKey<'_>, Refusa
     Ok(OpenedKey { bytes, height })
 }
 
-/// Whether a verifier with hash `H` and code `C` opens this key too (`suited` in specs/): whether
+/// Whether a verifier with hash `H` and code `C` opens this key too (`suits` in specs/): whether
 /// it was opened with the same hash number, code number and number of levels.
 pub fn suits<H: ChainHash, C: Code>(key: &OpenedKey<'_>) -> bool
-    ensures answer { result ≡ suited H.ChainHash.NUMBER C.Code.NUMBER C.Code.LEVELS
+    ensures answer { result ≡ suits H.ChainHash.NUMBER C.Code.NUMBER C.Code.LEVELS
         (key_of key.now) }
     ensures opened { (hash code levels : ℕ) →
         open_rule hash code levels (key_of key.now).bytes ≡ Ok (key_of key.now) →

@@ -6,9 +6,9 @@ ghost use Rattle.records.specs.Causes.{Refuses};
 ghost use Rattle.records.specs.Keys.{Key};
 ghost use Rattle.records.specs.Reads.{ReadsReleases};
 ghost use Rattle.records.specs.Rules.{seen};
-ghost use Rattle.records.specs.Views.{shown_by};
+ghost use Rattle.records.specs.Views.{release_of};
 ghost use Rattle.verifier.specs.Conditions.{Opening, OpenedWith, read_causes};
-ghost use Rattle.verifier.specs.Rules.{suited, read_rule};
+ghost use Rattle.verifier.specs.Rules.{suits, read_rule};
 ghost use Rattle.verifier.specs.Views.{key_of};
 
 use crate::OpenedKey;
@@ -26,10 +26,10 @@ pub fn read_under<'a, H: ChainHash, C: Code>(
     key: &OpenedKey<'_>,
     bytes: &'a [u8],
 ) -> Result<Release<'a>, Refusal>
-    ensures answer { seen shown_by result ≡ read_rule H.ChainHash.NUMBER (code_of C.Code)
+    ensures answer { seen release_of result ≡ read_rule H.ChainHash.NUMBER (code_of C.Code)
         (key_of key.now) bytes.now }
-    ensures reads { suited H.ChainHash.NUMBER C.Code.NUMBER C.Code.LEVELS (key_of key.now) ≡ true →
-        ReadsReleases C.Code.COUNT (key_of key.now).height bytes.now (seen shown_by result) }
+    ensures reads { suits H.ChainHash.NUMBER C.Code.NUMBER C.Code.LEVELS (key_of key.now) ≡ true →
+        ReadsReleases C.Code.COUNT (key_of key.now).height bytes.now (seen release_of result) }
     ensures refuses { (hash : ℕ) (code : Code) (by : Opening) (key : Key) (bytes : List ℕ) →
         OpenedWith by key →
         Refuses (read_causes hash code by key bytes) (read_rule hash code key bytes) }

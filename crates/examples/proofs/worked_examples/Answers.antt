@@ -2,7 +2,7 @@
 use Rattle.std.proofs.Common.{◌≡◌, ℕ, ◌++◌, List, replicate, get_or, refl, ap, arith, rules}
 use Rattle.std.proofs.ByRecursion.{All-append}
 use Rattle.examples.specs.Examples.{Right, hashing, coding, measuring, skipping, tracing, examples}
-use Rattle.strings.specs.Strings.{Str, zero_string}
+use Rattle.strings.specs.Strings.{IsString, zero_string}
 use Rattle.codes.specs.Codes.{Apart}
 use Rattle.examples.specs.Constant.{blind}
 use Rattle.examples.proofs.Answered.{hashing-right, coding-right, measuring-right, skipping-right}
@@ -13,8 +13,8 @@ use Rattle.examples.proofs.worked_examples.Goals as goal
 lawless : (f : ℕ → ℕ) → Apart (blind f) → ⊥
 lawless f apart =
     let ones : List ℕ = replicate 16 1 in
-    let str : Str zero_string = search rules in
-    let str' : Str ones = search rules in
+    let str : IsString zero_string = search rules in
+    let str' : IsString ones = search rules in
     let found = apart zero_string ones str str' (λ e. let first : ◌≡◌ {A = ℕ} 0 1 = ap (λ s. get_or s 0 0) e in absurd (omega arith)) in
     absurd (omega (arith, found.1))
 

@@ -9,9 +9,9 @@ ghost use Rattle.signer.specs.Views.{making_of};
 ghost use Rattle.scripts.specs.Calls.{said};
 ghost use Rattle.scripts.specs.Replies.{told, grown, answered, held_in, held_one, held_nodes, state_of, reply, leaves};
 
-use crate::answer::HELD_LEVELS;
 use crate::{Answer, Call, Node, Session};
 use codes::Code;
+use growth::HELD_LEVELS;
 use hashes::TreeHash;
 use signer::Maker;
 use tree::rows::WORK;

@@ -6,7 +6,7 @@ ghost use Rattle.tree.specs.Rows.{work_size};
 ghost use Rattle.growth.specs.Grown.{node_at};
 ghost use Rattle.records.specs.Causes.{Refuses};
 ghost use Rattle.rules.specs.Conditions.{grow_causes};
-ghost use Rattle.rules.specs.Rules.{begin_rule, grow_answer, grow_state, held_rule, finish_state};
+ghost use Rattle.rules.specs.Rules.{begin_state, grow_answer, grow_state, held_rule, finish_state};
 ghost use Rattle.histories.specs.Histories.{growing, serving, grow, finish, Lived, Continues};
 ghost use Rattle.signer.specs.Views.{height_of_plan, making_of, signing_of};
 
@@ -28,7 +28,7 @@ impl<H: TreeHash, C: Code> Maker<H, C> {
     /// bytes for a code with `levels` levels in a leaf. The seed is secret: with it, the hash key and
     /// the masks every record of the key can be made. Refuses nothing, and takes no work buffer.
     pub fn begin(plan: Plan, seed: [u8; 16], hash_key: [u8; 16], masks: [u8; MASKS]) -> Maker<H, C>
-        ensures state { making_of result ≡ begin_rule
+        ensures state { making_of result ≡ begin_state
             (record { seed = seed; hash_key = hash_key; masks = masks; height = height_of_plan plan }) }
         ensures lived { Lived (hash_of H.TreeHash) (code_of C.Code)
             (record { seed = seed; hash_key = hash_key; masks = masks; height = height_of_plan plan }) []

@@ -1,5 +1,5 @@
-use Rattle.records.proofs.ReleaseRecord.{Shown}
+use Rattle.records.proofs.ReleaseRecord.{RowWritten}
 use Rattle.records.proofs.release.write_row.Given as goal
 
 abbrev pub invariant-loop-place : goal.invariant-loop-place
-invariant-loop-place g l = Shown (g.R.ReleaseRow.strings l.row) l.initial.out l.out l.place
+invariant-loop-place g l = RowWritten (g.R.ReleaseRow.strings l.row) l.initial.out l.out l.place

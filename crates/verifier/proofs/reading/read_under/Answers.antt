@@ -1,7 +1,7 @@
-use Rattle.std.proofs.Common.{rules, ◌≡◌, ◌∙◌}
+use Rattle.std.proofs.Common.{rules, arith, ◌≡◌, ◌∙◌}
 use Rattle.tree.specs.Meaning.{code_of}
 use Rattle.records.specs.Rules.{seen}
-use Rattle.records.specs.Views.{shown_by}
+use Rattle.records.specs.Views.{release_of}
 use Rattle.records.proofs.Facts.{bytes-from}
 use Rattle.records.proofs.Reading.{reads-releases-as}
 use Rattle.verifier.specs.Rules.{read_rule}
@@ -13,7 +13,7 @@ use Rattle.verifier.proofs.reading.read_under.Goals as goal
 use Rattle.verifier.proofs.reading.read_under.Goals.{After-parts_of}
 
 -- what the parts of the body come to by the rule
-told : (g : given.Over) (c : After-parts_of g) → seen shown_by c.parts_of.result ≡ read_rule g.H.ChainHash.NUMBER (code_of g.C.Code) (key_of c.args.key.now) c.args.bytes.now
+told : (g : given.Over) (c : After-parts_of g) → seen release_of c.parts_of.result ≡ read_rule g.H.ChainHash.NUMBER (code_of g.C.Code) (key_of c.args.key.now) c.args.bytes.now
 told g c =
     let bytes = c.args.bytes.now in
     let read = read-parts g.H.ChainHash.NUMBER (code_of g.C.Code) (key_of c.args.key.now) bytes c.in_ok-body.body.now c.in_ok-body.ensures c.if-not-suits.ensures.answer in
@@ -24,7 +24,7 @@ returns-in_err-body-clause-reads g c suits =
     let key = key_of c.args.key.now in
     let bytes = c.args.bytes.now in
     let released = read-as-released g.H.ChainHash.NUMBER (code_of g.C.Code) key bytes suits in
-    reads-releases-as g.C.Code.COUNT g.C.Code.LEVELS key.height bytes _ g.met.C.Code.level_range.1 g.met.C.Code.count_range c.args.key.now.tall.1 (bytes-from bytes c.type_inv.bytes) (search (rules, released))
+    reads-releases-as g.C.Code.COUNT g.C.Code.LEVELS key.height bytes _ g.met.C.Code.level_range.1 (omega (arith, c.args.key.now.tall.0)) g.met.C.Code.count_range.1 c.args.key.now.tall.1 (bytes-from bytes c.type_inv.bytes) (search (rules, released))
 
 pub returns-in_err-body-clause-refuses : goal.returns-in_err-body-clause-refuses
 returns-in_err-body-clause-refuses g c = read-refuses
@@ -40,7 +40,7 @@ returns-clause-reads g c suits =
     let key = key_of c.args.key.now in
     let bytes = c.args.bytes.now in
     let released = read-as-released g.H.ChainHash.NUMBER (code_of g.C.Code) key bytes suits in
-    reads-releases-as g.C.Code.COUNT g.C.Code.LEVELS key.height bytes _ g.met.C.Code.level_range.1 g.met.C.Code.count_range c.args.key.now.tall.1 (bytes-from bytes c.type_inv.bytes) (told g c ∙ released)
+    reads-releases-as g.C.Code.COUNT g.C.Code.LEVELS key.height bytes _ g.met.C.Code.level_range.1 (omega (arith, c.args.key.now.tall.0)) g.met.C.Code.count_range.1 c.args.key.now.tall.1 (bytes-from bytes c.type_inv.bytes) (told g c ∙ released)
 
 pub returns-clause-refuses : goal.returns-clause-refuses
 returns-clause-refuses g c = read-refuses

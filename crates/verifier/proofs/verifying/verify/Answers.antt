@@ -1,7 +1,7 @@
 use Rattle.std.proofs.Common.{◌≡◌, ℕ, ◌+◌, ◌*◌, List, length, Ok, sym, ap, arith}
 use Rattle.std.proofs.lemmas.List.{length-drop}
 use Rattle.tree.specs.Meaning.{Code, code_of}
-use Rattle.records.specs.Keys.{Key, Shown}
+use Rattle.records.specs.Keys.{Key, Release}
 use Rattle.records.specs.Records.{masks_of}
 use Rattle.verifier.specs.Rules.{read_rule}
 use Rattle.verifier.specs.Views.{key_of}
@@ -11,10 +11,10 @@ use Rattle.verifier.proofs.Refusing.{verify-refuses}
 use Rattle.verifier.proofs.verifying.verify.Goals as goal
 
 -- the masks of the key under which a release was read, and the row of the release, are whole
-laid : (hash : ℕ) (code : Code) (key : Key) (bytes : List ℕ) (shown : Shown) → Ok shown ≡ read_rule hash code key bytes → (length (masks_of key.bytes) ≡ 32 * (key.height + code.levels)) × (length shown.row ≡ 16 * (code.count + key.height))
+laid : (hash : ℕ) (code : Code) (key : Key) (bytes : List ℕ) (shown : Release) → Ok shown ≡ read_rule hash code key bytes → (length (masks_of key.bytes) ≡ 32 * (key.height + code.levels)) × (length shown.row ≡ 16 * (code.count + key.height))
 laid hash code key bytes shown p =
     let read = read-to hash code key bytes shown (sym p) in
-    let opens = suited-to hash code.number code.levels key read.0.suits in (
+    let opens = suited-to hash code.number code.levels key read.0.suiting in (
       omega (arith, (key-parts hash code.number code.levels key.bytes opens.0).masked, opens.1),
       omega (arith, ap (λ s. length s.row) read.1, length-drop 8 bytes, read.0.laid),
     )

@@ -26,7 +26,7 @@ returns g c =
     c.or.ensures
     ∙ (λ i. option_or (c.climb_to_root-root.ensures.find i) (c.fold_both-leaf_node.ensures.find i))
     ∙ nodes-all hash code t _ _ g.met.C.Code.level_range.1 rows.ours rows.theirs in
-    let is : c.choose-verdict.result ≡ found hash code t = c.choose-verdict.ensures ∙ (λ i. chosen (nodes i) (rows.broken i) (rows.hidden i)) in
+    let is : c.choose-verdict.result ≡ found hash code t = c.choose-verdict.ensures ∙ (λ i. chosen (nodes i) (rows.broken i) (rows.unrevealed i)) in
     record {
       root = c.climb_to_root-root.ensures.theirs ∙ sym (their-root hash code t c.args.self.now.there);
       verdict = is;

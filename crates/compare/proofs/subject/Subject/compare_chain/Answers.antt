@@ -33,5 +33,5 @@ returns g c =
           (λ e below.
           let back : (d + e - d) + d ≡ d + e = omega arith in
           ap (λ s. step_find step k (d + e) s (their_chain hash code t k (d + e))) (rises (d + e - d) ∙ ap (our_chain hash code t k) back));
-      hidden = cc;
+      unrevealed = cc;
     }

@@ -5,7 +5,7 @@ use Rattle.tree.specs.Nodes.{raise}
 use Rattle.tree.specs.Rows.{most_places}
 use Rattle.tree.proofs.Laws.{one-time-none, one-time-more}
 use Rattle.growth.specs.Grown.{secret}
-use Rattle.compare.specs.Search.{height_search, hidden_find_at}
+use Rattle.compare.specs.Search.{height_search, unrevealed_find_at}
 use Rattle.compare.specs.Views.{traced_of}
 use Rattle.compare.proofs.Firsts.{first-none, first-after}
 use Rattle.compare.proofs.subject.Subject.compare_chains.Goals as goal
@@ -21,7 +21,7 @@ loop-place-init g c =
       one-time-none step code.top (λ j. 0) (secret hash t.origin t.leaf),
       one-time-none step code.top (code.digit t.stamp) (string_at t.row),
       sym (first-none (height_search hash code t) 0),
-      sym (first-none (hidden_find_at hash code t) 0),
+      sym (first-none (unrevealed_find_at hash code t) 0),
     )
 
 pub loop-place-preserved : goal.loop-place-preserved
@@ -43,5 +43,5 @@ loop-place-preserved g c =
           (c.put_string-in-loop-place.ensures.here ∙ chain.theirs)
           c.put_string-in-loop-place.ensures.others,
       c.or-broken.ensures ∙ first-after (height_search hash code t) k _ _ inv.4 chain.broken,
-      c.or-hidden.ensures ∙ first-after (hidden_find_at hash code t) k _ _ inv.5 chain.hidden,
+      c.or-unrevealed.ensures ∙ first-after (unrevealed_find_at hash code t) k _ _ inv.5 chain.unrevealed,
     )

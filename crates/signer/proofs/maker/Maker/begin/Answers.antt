@@ -3,7 +3,7 @@ use Rattle.growth.proofs.Trees.{holds-none}
 use Rattle.growth.specs.Grown.{nodes_size}
 use Rattle.growth.specs.declared.origin.Origin.{Origin}
 use Rattle.histories.specs.Histories.{growing, Lived}
-use Rattle.rules.specs.Rules.{begin_rule}
+use Rattle.rules.specs.Rules.{begin_state}
 use Rattle.rules.specs.States.{Making}
 use Rattle.histories.proofs.Continuing.{begin-lives}
 use Rattle.tree.specs.Meaning.{hash_by, code_of}
@@ -20,8 +20,8 @@ module _ (g : given.Over) (c : After-height-height g) where
   abbrev made : Making
   made = record { origin = record { seed = c.args.seed; hash_key = c.args.hash_key; masks = c.args.masks; height = c.height-height.result }; grown = 0; nodes = replicate nodes_size 0 }
 
-  begun : made ≡ begin_rule given_of
-  begun = ap (λ h. begin_rule (record { seed = c.args.seed; hash_key = c.args.hash_key; masks = c.args.masks; height = h })) c.height-height.ensures
+  begun : made ≡ begin_state given_of
+  begun = ap (λ h. begin_state (record { seed = c.args.seed; hash_key = c.args.hash_key; masks = c.args.masks; height = h })) c.height-height.ensures
 
   small : (i : ℕ) → (get_or c.args.seed i 0 < 256) × (get_or c.args.hash_key i 0 < 256) × (get_or c.args.masks i 0 < 256)
   small = search rules

@@ -55,7 +55,7 @@ module _ (g : given.Over) (c : Start g) where
         refuses = sign-refuses code s out r answer;
         state = state;
         output = output;
-        accepts = accepting hash code s strings self.tall few self.sized.2 s.next stamp g.met.C.Code.count_range.0 many low self.rooted;
+        accepts = accepting hash code s strings self.tall few self.sized.2 s.next stamp many low self.rooted;
         lived = sign-continues hash code s s' stamp out after r str answer state output;
         wiped = wiped;
       }

@@ -14,7 +14,7 @@ use Rattle.histories.proofs.Promised.{promised}
 use Rattle.rules.proofs.Tracing.{ByRule, ReadsOwn, unread, misled, led}
 use Rattle.strings.proofs.Laws.{str-from}
 use Rattle.tree.specs.Meaning.{Hash, Code, hash_by, code_of}
-use Rattle.records.specs.Views.{shown_by}
+use Rattle.records.specs.Views.{release_of}
 use Rattle.records.specs.declared.refusal.Refusal.{Refusal}
 use Rattle.records.proofs.Facts.{bytes-from}
 use Rattle.signer.specs.Views.{signing_of}
@@ -84,12 +84,12 @@ returns-in_err-release g c =
 pub returns-then-not-same : goal.returns-then-not-same
 returns-then-not-same g c =
     let at = (goal.at.returns-then-not-same g c).Start in
-    ends g at c.type_inv.bytes _ _ (misled _ _ _ _ _ _ (reads g at) (shown_by c.in_ok-release.release) c.in_ok-release.ensures.answer c.compare-compared.result.root c.compare-compared.ensures.root (sym c.if-not-same.ensures.value)) c.drop-guard-then-not-same.ensures
+    ends g at c.type_inv.bytes _ _ (misled _ _ _ _ _ _ (reads g at) (release_of c.in_ok-release.release) c.in_ok-release.ensures.answer c.compare-compared.result.root c.compare-compared.ensures.root (sym c.if-not-same.ensures.value)) c.drop-guard-then-not-same.ensures
 
 pub returns : goal.returns
 returns g c =
     let at = (goal.at.returns g c).Start in
     let compared = c.compare-compared in
     ends g at c.type_inv.bytes _ _
-    (led _ _ _ _ _ _ (reads g at) (shown_by c.in_ok-release.release) c.in_ok-release.ensures.answer compared.result.root compared.ensures.root (sym c.if-not-same.ensures.value) _ compared.result.verdict _ _ c.row.ensures compared.ensures.verdict c.numbers.ensures c.report.ensures)
+    (led _ _ _ _ _ _ (reads g at) (release_of c.in_ok-release.release) c.in_ok-release.ensures.answer compared.result.root compared.ensures.root (sym c.if-not-same.ensures.value) _ compared.result.verdict _ _ c.row.ensures compared.ensures.verdict c.numbers.ensures c.report.ensures)
     c.drop-guard-2.ensures

@@ -2,7 +2,7 @@ use Rattle.std.proofs.Common.{◌≡◌, ℕ, ◌<◌, length}
 use Rattle.strings.specs.Strings.{string_at}
 use Rattle.tree.specs.Nodes.{one_time}
 use Rattle.tree.specs.Rows.{most_places, work_size}
-use Rattle.tree.proofs.chains.one_time_strings.Given as goal
+use Rattle.tree.proofs.chains.fill_one_time_strings.Given as goal
 
 -- so far the row is that of a leaf with k chains
 abbrev pub invariant-loop-chain : goal.invariant-loop-chain
