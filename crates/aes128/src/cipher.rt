@@ -10,8 +10,8 @@ use strings::xor;
 /// The number of the last round, counted from 0. All rounds before it are full ones.
 const LAST: usize = ROUNDS - 1;
 
-/// Encrypts one block of 16 bytes under a key of 16 bytes: 16 bytes. The key schedule is made along
-/// the rounds.
+/// The cipher of FIPS 197, section 5.1: encrypts one block, 16 bytes, under a key of 16 bytes, and
+/// answers 16 bytes (`aes128_of` in specs/). The key schedule is made along the rounds.
 pub fn encrypt(key: &[u8; 16], block: &[u8; 16]) -> [u8; 16]
     ensures { result ≡ aes128_of key.now block.now }
 {

@@ -35,7 +35,8 @@ pub(crate) fn next_round_key(round_key: &[u8; 16], n: usize) -> [u8; 16]
     from_columns(&first, &second, &third, &fourth)
 }
 
-/// The last round key of a key of 16 bytes, that of round 10: 16 bytes.
+/// The last round key, 16 bytes, of the key expansion of FIPS 197, section 5.2, from a key of 16
+/// bytes: that of round 10 (`key_of_round` in specs/).
 pub fn last_round_key(key: &[u8; 16]) -> [u8; 16]
     ensures { result ≡ key_of_round key.now 10 }
 {

@@ -29,8 +29,9 @@ fn run_numbered<A, T: Task<Output = Result<A, Refusal>>>(
     Ok(Scheme::numbered(hash, code)?.run(task)?)
 }
 
-/// Opens a key record, and verifies a release record under it for a stamp of 16 bytes: the leaf. Refuses the key record with 6
-/// to 10 as `open`, and then the release record with 6, 7, 10, 11 and 12 as `verify`. Rule: `verified`.
+/// Opens a key record, and verifies a release record under it for a stamp of 16 bytes: the leaf. Refuses the key record with
+/// 6, `Length`, 7, `Kind`, 8, `Parameters`, 9, `Height`, and 10, `Layout`, as `open`, and then the release record with 6,
+/// `Length`, 7, `Kind`, 10, `Layout`, 11, `Leaf`, and 12, `Root`, as `verify`. Rule: `verified`.
 #[unsafe(no_mangle)]
 pub extern "C" fn verify_release(
     hash: u8,
@@ -123,10 +124,10 @@ pub extern "C" fn sign_release(
     Reply::from(run_numbered(hash, code, &mut task))
 }
 
-/// Begins and finishes a key, skips to a leaf where it can, signs the stamp `spent` where it can, retires the key, and traces a
-/// record for `stamp`, each stamp of 16 bytes: the verdict and its two numbers; `report`, of 64 bytes, shows it. Refuses with
-/// 1, `Plan`, a height outside 1 to 8, and then the record with 6, 7, 10, 11 and 12 as trace; `report` then stays. Rules:
-/// `traced` and `traced_report`.
+/// Begins and finishes a key, skips to a leaf where it can, signs the stamp `spent` where it can, retires the key, and
+/// traces a record for `stamp`, each stamp of 16 bytes: the verdict and its two numbers; `report`, of 64 bytes, shows it.
+/// Refuses with 1, `Plan`, a height outside 1 to 8, and then the record with 6, `Length`, 7, `Kind`, 10, `Layout`, 11,
+/// `Leaf`, and 12, `Root`, as trace; `report` then stays. Rules: `traced` and `traced_report`.
 #[unsafe(no_mangle)]
 pub extern "C" fn trace_release(
     hash: u8,

@@ -73,10 +73,12 @@ fn unknown(key: &[u8]) -> Report<'_>
     }
 }
 
-/// The report of a key record and the orders that follow it, of all bytes that it is given, by the hash and code that the key
-/// record names. It refuses nothing and cannot fail: refusals stand in the report. The key record is refused with 6 and 7 as by
-/// `open`, then with 8, `Parameters`, for a hash or code number that is not known, then with 9 and 10 as by `open`; an order as
-/// by `verify`, and with 6, `Length`, where its stamp is cut short. Rules: `Reports`, and of the refusals `RefusesByLists`.
+/// The report of a key record and the orders that follow it, of all bytes that it is given, by the hash and code that the
+/// key record names. It refuses nothing and cannot fail: refusals stand in the report. The key record is refused, in this
+/// order: with 6, `Length`, and 7, `Kind`, as by `open`; with 8, `Parameters`, for a hash or code number that is not known;
+/// with 9, `Height`, and 10, `Layout`, as by `open`. An order is refused with 6, `Length`, where its stamp is cut short, and
+/// then with 6, `Length`, 7, `Kind`, 10, `Layout`, 11, `Leaf`, and 12, `Root`, as by `verify`. Rules: `Reports`, and of the
+/// refusals `RefusesByLists`.
 pub fn report_of(input: &[u8]) -> Report<'_>
     ensures report { Reports input.now (reported result) }
     ensures only { (other : Reported) → Reports input.now other → other ≡ reported result }

@@ -56,7 +56,8 @@ pub fn read<H: ChainHash, C: Code>(bytes: &[u8]) -> Result<u8, Refusal>
     Ok(height)
 }
 
-/// The hash key of a key record, 16 bytes from byte 10 on. No byte before it is looked at.
+/// The hash key of a key record, 16 bytes from byte 10 on. No byte before it is looked at. Wants at
+/// least 42 bytes, as an opened key has.
 pub fn hash_key(bytes: &[u8]) -> &[u8; 16]
     requires { beside_masks ≤ length bytes.now }
     ensures { result.now ≡ hash_key_of bytes.now }
@@ -65,7 +66,7 @@ pub fn hash_key(bytes: &[u8]) -> &[u8; 16]
 }
 
 /// The bitmasks of a key record, 32 bytes for each level from the root down: all bytes from byte 26
-/// on but the last 16.
+/// on but the last 16. Wants at least 42 bytes, as an opened key has.
 pub fn masks(bytes: &[u8]) -> &[u8]
     requires { beside_masks ≤ length bytes.now }
     ensures { result.now ≡ masks_of bytes.now }
@@ -73,7 +74,7 @@ pub fn masks(bytes: &[u8]) -> &[u8]
     &bytes[layout::MASKS..][..bytes.len() - layout::BESIDE_MASKS]
 }
 
-/// The root of a key record, its last 16 bytes.
+/// The root of a key record, its last 16 bytes. Wants at least 42 bytes, as an opened key has.
 pub fn root(bytes: &[u8]) -> &[u8; 16]
     requires { beside_masks ≤ length bytes.now }
     ensures { result.now ≡ root_of bytes.now }

@@ -19,7 +19,9 @@ pub trait Task {
     /// through a reference of the task is said by `Wrote`.
     ghost gives: { Self → Hash → Code → Self.Output → Self → Type 0 };
 
-    /// Does the work with hash `H` and code `C`.
+    /// Does the work with hash `H` and code `C`. Takes the task, whose fields hold what the work reads and where it writes,
+    /// and gives the work's answer. What the answer is, and how the task is left, is said by `gives`. It refuses nothing by
+    /// itself: what the work refuses stands in its answer.
     fn run<H: TreeHash, C: Code>(&mut self) -> Self::Output
         ensures { gives self.old (hash_of H.TreeHash) (code_of C.Code) result
             self.new };
@@ -47,8 +49,9 @@ pub struct Scheme {
 }
 
 impl Scheme {
-    /// The hash and the code with these numbers, as bytes 6 and 7 of a key record have them. Gives the error exactly where no
-    /// hash has the first number, or no code the second. Rule: `scheme_numbered`.
+    /// The hash and the code with these numbers, one byte each, as bytes 6 and 7 of a key record have them. Gives the error
+    /// exactly where no hash has the first number, or no code the second. Rules: `scheme_numbered`, and of the error
+    /// `UnknownNumbers`.
     pub fn numbered(hash: u8, code: u8) -> Result<Scheme, UnknownScheme>
         ensures value { result ≡ scheme_numbered hash code }
         ensures unknown { IsErr result ↔ UnknownNumbers hash code }
@@ -58,7 +61,8 @@ impl Scheme {
         Ok(Scheme { hash, code })
     }
 
-    /// Does the work with the hash and the code, and gives its answer.
+    /// Does the work of a task with the hash and the code, and gives its answer; it refuses nothing by itself. Rule: the
+    /// task's `gives`, with the hash and the code that the scheme names (`hash_named` and `code_named` in specs/).
     pub fn run<T: Task>(self, task: &mut T) -> T::Output
         ensures { T.gives task.old (hash_named self.hash) (code_named self.code) result task.new }
     {

@@ -48,10 +48,11 @@ impl<H: TreeHash, C: Code> Session<H, C> {
     }
 
     /// Answers a call, and gives the session as the call leaves it. One that the key does not have now is answered
-    /// `Answer::NotNow`, and one that is refused `Answer::Refused`; both change nothing. Refused are, as by the signer, grow
-    /// with 2, `Grown`; sign with 3, `Spent`; key and sign with 4, `Output`; skip with 5, `Skip`; trace with 6, 7, 10, 11 and
-    /// 12. A record is written into the front of `out`, as long as the call's room says and zero before, and the answer borrows
-    /// it there; all other bytes of `out` are used up. Rules: `reply` and `leaves`.
+    /// `Answer::NotNow`, and one that is refused `Answer::Refused`; both change nothing. Refused are, as by the signer: grow
+    /// with 2, `Grown`; sign with 3, `Spent`; key and sign with 4, `Output`; skip with 5, `Skip`; trace with 6, `Length`, 7,
+    /// `Kind`, 10, `Layout`, 11, `Leaf`, and 12, `Root`. A record is written into the front of `out`, as long as the call's
+    /// room says and zero before, and the answer borrows it there; all other bytes of `out` are used up. Rules: `reply` and
+    /// `leaves`.
     pub fn answer<'o>(
         self,
         call: &Call<'_>,

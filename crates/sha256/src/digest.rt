@@ -65,8 +65,9 @@ fn state_bytes(s: &State) -> [u8; DIGEST]
     bytes
 }
 
-/// SHA-256 of a message of any number of bytes: 32 bytes. From 2^61 bytes on, where the length in
-/// bits does not fit the padding's 64 and FIPS 180-4 defines no hash, its low 64 bits are taken.
+/// SHA-256 of FIPS 180-4, section 6.2, of a message of any number of bytes, padded by section
+/// 5.1.1: 32 bytes (`sha256_of` in specs/). From 2^61 bytes on, where the length in bits does not
+/// fit the padding's 64 and the standard defines no hash, its low 64 bits are taken.
 pub fn sha256(message: &[u8]) -> [u8; 32]
     ensures { result ≡ spec.sha256_of message.now }
 {

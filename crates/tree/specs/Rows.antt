@@ -1,5 +1,5 @@
--- The row of strings of a release: one of each chain, and then the siblings from level h up to
--- level 1.
+-- The row of strings of a release: one of each chain, and then the siblings of the authentication
+-- path, from level h up to level 1.
 use Rattle.std.specs.Prelude.{ℕ, ◌+◌, ◌-◌, List}
 use Rattle.std.specs.List.{range_with_len, flat_map}
 use Rattle.strings.specs.Strings.{string_at}

@@ -1,4 +1,5 @@
-//! The row of strings of a release, and the size of the work buffer that callers lend.
+//! The row of strings of a release, whose siblings are those of the authentication path, and the
+//! size of the work buffer that callers lend.
 
 ghost use Rattle.std.specs.Prelude.{◌≡◌, ◌+◌, ◌*◌, ◌<◌, ◌≤◌, length};
 ghost use Rattle.tree.specs.Rows.{chain_in, sibling_place, sibling_in, sibling_level};

@@ -17,8 +17,9 @@ use strings::same;
 
 /// The leaf number of a release record that is good for the stamp, 16 bytes, under the opened key:
 /// the root that is rebuilt from the record, over its chains, the L-tree inside the leaf and the
-/// authentication path, is the key's (`verify_rule` in specs/). Refuses, in this order: with 6, 7,
-/// 8, 10 and 11 as `read_under`; with 12, `Root`, a root unlike the key's.
+/// authentication path, is the key's (`verify_rule` in specs/). Refuses, in this order: with 6,
+/// `Length`, 7, `Kind`, 8, `Parameters`, 10, `Layout`, and 11, `Leaf`, as `read_under`; with 12,
+/// `Root`, a root unlike the key's.
 pub fn verify<H: TreeHash, C: Code>(
     key: &OpenedKey<'_>,
     stamp: &[u8; 16],

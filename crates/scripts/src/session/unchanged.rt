@@ -29,8 +29,8 @@ pub(crate) fn key<'o, H: TreeHash, C: Code>(
     }
 }
 
-/// Compares a release record for a stamp with the ledger, and answers with a verdict and its report; refuses with 6, 7, 10, 11
-/// and 12 as the signer's trace. Rule: `trace_reply`.
+/// Compares a release record for a stamp with the ledger, and answers with a verdict and its report; refuses, in this order,
+/// with 6, `Length`, 7, `Kind`, 10, `Layout`, 11, `Leaf`, and 12, `Root`, as the signer's trace. Rule: `trace_reply`.
 pub(crate) fn trace<H: TreeHash, C: Code>(
     signer: &Signer<H, C>,
     stamp: &[u8; 16],
