@@ -12,8 +12,8 @@ Apart digits =
     (m n : List ℕ) → IsString m → IsString n → (m ≢ n) → (k : ℕ) × (digits m k < digits n k)
 
 -- a width of digits: a whole number of them makes a byte, and more than one
-abbrev pub Width : ℕ → Type 0
-Width w = (w * (8 / w) ≡ 8) × (w < 8)
+abbrev pub IsWidth : ℕ → Type 0
+IsWidth w = (w * (8 / w) ≡ 8) × (w < 8)
 
 -- digit number j of a stamp cut into digits of w bits, from the highest bit of byte 0 on
 abbrev pub bits : ℕ → List ℕ → ℕ → ℕ

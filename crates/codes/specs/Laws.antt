@@ -16,7 +16,7 @@ use Rattle.std.proofs.lemmas.Bool.{cases_lt, cases_eq, cases_order, cond-true, c
 use Rattle.std.proofs.lemmas.Bool.{lt-ltb, eq-eqb, ne_eqb}
 use Rattle.std.proofs.lemmas.List.FromFn.{length-map-range_with_len, get_or-map-range_with_len}
 use Rattle.strings.specs.Strings.{IsString}
-use Rattle.codes.specs.Codes.{Width, bits, cut, lamport_diffie, checksum, ending, codeword}
+use Rattle.codes.specs.Codes.{IsWidth, bits, cut, lamport_diffie, checksum, ending, codeword}
 use Rattle.codes.specs.Codes.{winternitz}
 
 -- xs has a digit that is smaller than the one of ys at the same place; d stands past the ends
@@ -172,24 +172,24 @@ cut_below w m =
     let in' : i < 128 / w = omega (arith, length_cut w m) in
     rw get_or-cut (mod_below _ (2 ^ w) (pow_pos w)))
 
-width-pos : (w : ℕ) → Width w → 0 < w
+width-pos : (w : ℕ) → IsWidth w → 0 < w
 width-pos zero v = absurd (omega (arith, zero-mul (8 / 0), v.0))
 width-pos (suc w) v = omega arith
 
-pub digit-count : (w : ℕ) → Width w → 128 / w ≡ 16 * (8 / w)
+pub digit-count : (w : ℕ) → IsWidth w → 128 / w ≡ 16 * (8 / w)
 digit-count w v =
     let all : 128 ≡ w * (16 * (8 / w)) = omega (arith, v.0) in
     ap (λ t. t / w) all ∙ mul-div_right (16 * (8 / w)) (width-pos w v)
 
 -- where digit b of byte a begins, and that it ends in that byte
-begins : (w a b : ℕ) → Width w → b < 8 / w →
+begins : (w a b : ℕ) → IsWidth w → b < 8 / w →
     (w * (a * (8 / w) + b) ≡ 8 * a + w * b) × (w * b + w ≤ 8)
 begins w a b v h =
     let ends : w * b + w ≤ 8 = omega (arith, v.0, mul-le-mul_left w h, mul-suc w b) in
     (omega (arith, ap (λ t. a * t) v.0), ends)
 
 -- where the bits of a digit stand: in one byte of the stamp
-pub in-stamp : (w j : ℕ) → Width w → j < 128 / w → (w * j / 8 < 16) × (w * j % 8 + w ≤ 8)
+pub in-stamp : (w j : ℕ) → IsWidth w → j < 128 / w → (w * j / 8 < 16) × (w * j % 8 + w ≤ 8)
 in-stamp w j v h =
     let q = 8 / w in
     let some : 0 < q = le-div 1 8 w (width-pos w v) (omega (arith, v.1)) in
@@ -202,7 +202,7 @@ in-stamp w j v h =
     (omega (arith, at, from.1), omega (arith, at, from.1))
 
 -- digit b of byte a of a stamp is digit b of that byte
-bits-in-byte : (w a b d : ℕ) (m : List ℕ) → Width w → b < 8 / w →
+bits-in-byte : (w a b d : ℕ) (m : List ℕ) → IsWidth w → b < 8 / w →
     bits w m (a * (8 / w) + b) ≡ slice_index_or (ending w (8 / w) (slice_index m a)) b d
 bits-in-byte w a b d m v h =
     let q = 8 / w in
@@ -215,7 +215,7 @@ bits-in-byte w a b d m v h =
     ∙ sym (get_or-ending w q (slice_index m a) b d h)
 
 -- and so is the digit at its place in the cut stamp
-digit-in-byte : (w a b : ℕ) (m : List ℕ) → Width w → a < 16 → b < 8 / w →
+digit-in-byte : (w a b : ℕ) (m : List ℕ) → IsWidth w → a < 16 → b < 8 / w →
     slice_index (cut w m) (a * (8 / w) + b) ≡ slice_index (ending w (8 / w) (slice_index m a)) b
 digit-in-byte w a b m v h g =
     let q = 8 / w in
@@ -223,7 +223,7 @@ digit-in-byte w a b m v h g =
     get_or-cut w m (a * q + b) 0 within ∙ bits-in-byte w a b 0 m v g
 
 -- the digits of a byte are those of the cut stamp
-same-endings : (w : ℕ) → Width w → (m n : List ℕ) → cut w m ≡ cut w n → (a : ℕ) → a < 16 →
+same-endings : (w : ℕ) → IsWidth w → (m n : List ℕ) → cut w m ≡ cut w n → (a : ℕ) → a < 16 →
     ending w (8 / w) (slice_index m a) ≡ ending w (8 / w) (slice_index n a)
 same-endings w v m n e a h =
     let q = 8 / w in
@@ -235,7 +235,7 @@ same-endings w v m n e a h =
     ∙ digit-in-byte w a b n v h within)
 
 -- a stamp is known by its digits
-pub cut-injective : (w : ℕ) → Width w → (m n : List ℕ) → IsString m → IsString n →
+pub cut-injective : (w : ℕ) → IsWidth w → (m n : List ℕ) → IsString m → IsString n →
     cut w m ≡ cut w n → m ≡ n
 cut-injective w v m n sm sn e =
     let q = 8 / w in
@@ -259,7 +259,7 @@ pub checksum-end : (w : ℕ) (m : List ℕ) (j : ℕ) → 128 / w ≤ j →
 unfolding checksum
 checksum-end w m j h = at_drop_all (checksum w) (cut w m) j (omega (arith, length_cut w m))
 
-pub checksum-fits : (w : ℕ) (m : List ℕ) → Width w → checksum w (cut w m) < 2 ^ 16
+pub checksum-fits : (w : ℕ) (m : List ℕ) → IsWidth w → checksum w (cut w m) < 2 ^ 16
 checksum-fits w m v =
     let ds = cut w m in
     let some = mul-le 1 (8 / w) w (8 / w) (width-pos w v) (omega arith) in
@@ -309,7 +309,7 @@ winternitz-past w n m k h =
     let past : length word ≤ k = omega (arith, long, length_cut w m, length-ending w n c) in
     get_or_past word k (2 ^ w - 1) past
 
-pub winternitz-apart : (w n : ℕ) → Width w → 128 / w * 2 ^ w < 2 ^ (w * n) →
+pub winternitz-apart : (w n : ℕ) → IsWidth w → 128 / w * 2 ^ w < 2 ^ (w * n) →
     (m m' : List ℕ) → IsString m → IsString m' → (m ≢ m') →
     (k : ℕ) × (winternitz w n m k < winternitz w n m' k)
 winternitz-apart w n v room m m' s s' ne =

@@ -1,7 +1,7 @@
 //! The widths of Winternitz digits.
 
 ghost use Rattle.std.specs.Prelude.{ℕ, ◌+◌, ◌-◌, ◌*◌, ◌/◌, ◌^◌, ◌<◌, ◌≤◌, refl};
-ghost use Rattle.codes.specs.Codes.{Width};
+ghost use Rattle.codes.specs.Codes.{IsWidth};
 ghost use Rattle.std.proofs.Common.{lit<, lit≤};
 
 /// A width of Winternitz digits, the parameter w of the scheme, and what a code with such digits
@@ -35,7 +35,7 @@ pub trait DigitWidth {
     ghost number_range: { NUMBER < 256 };
 
     /// A whole number of digits makes a byte.
-    ghost wide: { Width WIDTH };
+    ghost wide: { IsWidth WIDTH };
 
     /// The largest digit lies from 1 to 15.
     ghost top_range: { (1 ≤ 2 ^ WIDTH - 1) × (2 ^ WIDTH - 1 ≤ 15) };

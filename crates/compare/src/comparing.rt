@@ -55,7 +55,11 @@ impl<H: TreeHash, C: Code> Subject<'_, H, C> {
         let chains = self.compare_chains(work, &mut theirs);
         let leaf_node = self.fold_both(work, &mut theirs);
         let root = self.climb_to_root(&leaf_node.sides, work);
-        let verdict = choose(root.find.or(leaf_node.find), chains.broken, chains.unrevealed);
+        let verdict = choose(
+            root.find.or(leaf_node.find),
+            chains.broken,
+            chains.unrevealed,
+        );
         let root = root.sides.theirs;
         Comparison { root, verdict }
     }

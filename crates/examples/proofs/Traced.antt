@@ -18,9 +18,9 @@ use Rattle.compare.specs.declared.verdict.Verdict.TheVariants.{Ours, Node, Chain
 use Rattle.rules.specs.Rules.{leaves_more, key_record, release_record, sign_state, sign_output, own_key, traced_by, trace_answer, trace_report, report_after}
 use Rattle.rules.specs.States.{Signing}
 use Rattle.compare.proofs.Agreeing.{SameNode}
-use Rattle.tree.specs.Known.{practice}
-use Rattle.examples.specs.Setting.{string, lamport_diffie_code, origin}
-use Rattle.examples.specs.Examples.{Outcome, gives, Right, answered_three, new, output, written, signed, changed, shown, one_changed, two_changed, verdict, reported, tracing}
+use Rattle.tree.specs.Known.{practice, lamport_diffie_code}
+use Rattle.examples.specs.Setting.{string, origin}
+use Rattle.examples.specs.Examples.{Outcome, gives, IsRight, answered_three, new, output, written, signed, changed, shown, one_changed, two_changed, verdict, reported, tracing}
 use Rattle.examples.proofs.Agreed.{searched-below}
 
 -- the new signer, with its root computed
@@ -157,6 +157,6 @@ two_is = ap (λ r. changed 3 0 (changed 1 1 r)) zeros-is
 shown-is : (k : ℕ) → shown k ≡ gives (string_at (row_of zeros) k)
 shown-is k = ap (λ r. gives (string_at (row_of r) k)) zeros-is
 
-pub tracing-right : AllByRecursion Right tracing
+pub tracing-right : AllByRecursion IsRight tracing
 unfolding zeros row shown_string find
 tracing-right = (shown-is 1, (shown-is 3, (shown-is 6, (verdict-is zeros-is ours, (verdict-is one-is one, (reported-is one-is one 2, (verdict-is two_is two, (reported-is two_is two 4, (verdict-is high_is other, tt)))))))))

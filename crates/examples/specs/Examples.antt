@@ -3,7 +3,7 @@ use Rattle.std.specs.Prelude.{◌≡◌, ℕ, List, [], ◌∷◌, ◌++◌, map
 use Rattle.std.specs.List.{range_with_len, flat_map, AllByRecursion}
 use Rattle.strings.specs.Strings.{string_at, put_string}
 use Rattle.codes.specs.Codes.{checksum, ending}
-use Rattle.tree.specs.Known.{practice}
+use Rattle.tree.specs.Known.{practice, lamport_diffie_code, winternitz2_code, winternitz4_code}
 use Rattle.tree.specs.Meaning.{Code}
 use Rattle.tree.specs.Nodes.{join}
 use Rattle.growth.specs.Grown.{masks_size, secret}
@@ -14,7 +14,7 @@ use Rattle.compare.specs.Found.{report_size}
 use Rattle.rules.specs.Rules.{release_size, sign_answer, sign_state, sign_output, skip_answer}
 use Rattle.rules.specs.Rules.{skip_state, trace_answer, trace_report}
 use Rattle.rules.specs.States.{Signing}
-use Rattle.examples.specs.Setting.{string, lamport_diffie_code, winternitz2_code, winternitz4_code, origin, fresh}
+use Rattle.examples.specs.Setting.{string, origin, fresh}
 
 -- numbers, or a refusal by its number
 pub data Outcome : Type 0 where
@@ -27,8 +27,8 @@ pub record Example : Type 0 where
   pub expected : Outcome
 
 -- an example holds: the two outcomes are the same
-abbrev pub Right : Example → Type 0
-Right e = e.computed ≡ e.expected
+abbrev pub IsRight : Example → Type 0
+IsRight e = e.computed ≡ e.expected
 
 -- the example of two outcomes
 abbrev pub example : Outcome → Outcome → Example
@@ -85,7 +85,8 @@ digits_from code k n stamp = gives (map (code.digit stamp) (range_with_len k n))
 abbrev pub coding : List Example
 coding =
     example (digits_from winternitz2_code 64 5 (string 0)) (gives (1 ∷ 0 ∷ 0 ∷ 0 ∷ 0 ∷ []))
-    ∷ example (digits_from winternitz2_code 64 5 (replicate 16 0xFF)) (gives (0 ∷ 1 ∷ 0 ∷ 0 ∷ 0 ∷ []))
+    ∷ example (digits_from winternitz2_code 64 5 (replicate 16 0xFF))
+    (gives (0 ∷ 1 ∷ 0 ∷ 0 ∷ 0 ∷ []))
     ∷ example (digits_from winternitz2_code 64 5 (string 0x40)) (gives (0 ∷ 3 ∷ 3 ∷ 3 ∷ 3 ∷ []))
     ∷ example (digits_from winternitz4_code 32 3 (string 0)) (gives (2 ∷ 0 ∷ 0 ∷ []))
     ∷ example (digits_from winternitz4_code 32 3 (replicate 16 0xFF)) (gives (0 ∷ 2 ∷ 0 ∷ []))
@@ -161,7 +162,8 @@ verdict stamp bytes = answered_three (trace_answer practice lamport_diffie_code 
 -- the first n strings of its report
 abbrev pub reported : ℕ → List ℕ → List ℕ → Outcome
 reported n stamp bytes =
-    let report = trace_report practice lamport_diffie_code signed stamp bytes (replicate report_size 0xFF) in
+    let before = replicate report_size 0xFF in
+    let report = trace_report practice lamport_diffie_code signed stamp bytes before in
     gives (flat_map (string_at report) (range_with_len 0 n))
 
 -- strings that a record shows, each verdict, and two reports
@@ -184,4 +186,4 @@ examples = hashing ++ (coding ++ (measuring ++ (skipping ++ tracing)))
 
 -- they hold
 abbrev pub Worked : Type 0
-Worked = AllByRecursion Right examples
+Worked = AllByRecursion IsRight examples

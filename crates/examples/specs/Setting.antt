@@ -19,18 +19,6 @@ use Rattle.rules.specs.States.{Signing}
 abbrev pub string : ℕ → List ℕ
 string b = b ∷ replicate 15 0
 
--- the codes by their numbers: 1, the Lamport-Diffie code
-abbrev pub lamport_diffie_code : Code
-lamport_diffie_code = lamport_diffie_code
-
--- 2, the Winternitz code with digits of 2 bits
-abbrev pub winternitz2_code : Code
-winternitz2_code = winternitz2_code
-
--- 3, the Winternitz code with digits of 4 bits
-abbrev pub winternitz4_code : Code
-winternitz4_code = winternitz4_code
-
 -- the hash and the codes are those that their impls state
 pub record AsStated : Type 0 where
   pub hash : practice ≡ hash_by practice_chain.ghosts practice_tree.ghosts

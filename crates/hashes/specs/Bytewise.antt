@@ -16,7 +16,8 @@ step-str k s a b =
     let byte = byte-below s j b.1 in
     xor_lt 8 (slice_index s j / 2) (slice_index k j) (omega arith) (byte-below k j a.1))
 
-pub pair-str : (k l r : List ℕ) → IsString k → IsString l → IsString r → IsString (practice_pair k l r)
+pub pair-str : (k l r : List ℕ) → IsString k → IsString l → IsString r →
+    IsString (practice_pair k l r)
 pair-str k l r a b c =
     bytewise-str (pair_byte k l r) (λ j.
     let sum = slice_index l j + slice_index r j in

@@ -136,7 +136,12 @@ impl Depot<'_> {
     }
 
     // What tracing a record answers.
-    fn trace(&mut self, key: &Signer<Practice, Winternitz4>, order: u8, release: &[u8; RELEASE]) -> anyhow::Result<()> {
+    fn trace(
+        &mut self,
+        key: &Signer<Practice, Winternitz4>,
+        order: u8,
+        release: &[u8; RELEASE],
+    ) -> anyhow::Result<()> {
         let mut report = [0; REPORT];
         match key.trace(&[order; 16], release, &mut report, &mut self.work) {
             Ok(verdict) => tell_verdict(self.rt, verdict, &report),

@@ -3,8 +3,9 @@ use Rattle.std.specs.Prelude.{ℕ, ◌^◌, ◌<◌, ◌≤◌, ◌≢◌, ◌�
 use Rattle.tree.specs.Nodes.{tallest}
 use Rattle.records.specs.Causes.{Cause, cause}
 use Rattle.records.specs.Kinds.{kind_number}
-use Rattle.records.specs.Records.{named_length, named_kind, shortest_record, key_length, release_length}
-use Rattle.records.specs.Records.{hash_number_of, code_number_of, height_of, spare_of, leaf_of}
+use Rattle.records.specs.Records.{named_length, named_kind, shortest_record, key_length}
+use Rattle.records.specs.Records.{release_length, hash_number_of, code_number_of, height_of}
+use Rattle.records.specs.Records.{spare_of, leaf_of}
 use Rattle.records.specs.declared.kind.RecordKind.{RecordKind}
 use Rattle.records.specs.declared.kind.RecordKind.TheVariants as kind
 

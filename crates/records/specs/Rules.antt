@@ -5,8 +5,9 @@ use Rattle.std.specs.Prelude.{Result, ◌==◌, nat_le, nat_lt}
 use Rattle.tree.specs.Nodes.{tallest}
 use Rattle.records.specs.Keys.{Key, Release}
 use Rattle.records.specs.Kinds.{kind_number}
-use Rattle.records.specs.Records.{named_length, named_kind, shortest_record, key_length, release_length, leaf_of}
-use Rattle.records.specs.Records.{hash_number_of, code_number_of, height_of, spare_of, row_of}
+use Rattle.records.specs.Records.{named_length, named_kind, shortest_record, key_length}
+use Rattle.records.specs.Records.{release_length, hash_number_of, code_number_of, height_of}
+use Rattle.records.specs.Records.{spare_of, leaf_of, row_of}
 use Rattle.records.specs.declared.kind.RecordKind.{RecordKind}
 use Rattle.records.specs.declared.kind.RecordKind.TheVariants as kind
 use Rattle.records.specs.declared.refusal.Refusal.{Refusal}
@@ -29,7 +30,8 @@ after (Err e) next = Err e
 
 -- fewer than 10 bytes, or a length field that differs from the number of bytes
 abbrev pub has_bad_length : List ℕ → Bool
-has_bad_length bytes = nat_lt (length bytes) shortest_record || not (named_length bytes == length bytes)
+has_bad_length bytes =
+    nat_lt (length bytes) shortest_record || not (named_length bytes == length bytes)
 
 -- another kind than this one
 abbrev pub has_bad_kind : RecordKind → List ℕ → Bool

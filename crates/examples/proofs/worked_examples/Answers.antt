@@ -1,7 +1,7 @@
 -- All examples hold, group by group.
 use Rattle.std.proofs.Common.{◌≡◌, ℕ, ◌++◌, List, replicate, get_or, refl, ap, arith, rules}
 use Rattle.std.proofs.ByRecursion.{All-append}
-use Rattle.examples.specs.Examples.{Right, hashing, coding, measuring, skipping, tracing, examples}
+use Rattle.examples.specs.Examples.{IsRight, hashing, coding, measuring, skipping, tracing, examples}
 use Rattle.strings.specs.Strings.{IsString, zero_string}
 use Rattle.codes.specs.Codes.{Apart}
 use Rattle.examples.specs.Constant.{blind}
@@ -26,7 +26,7 @@ returns c =
       lawless = lawless;
       stated = record { hash = refl; first = refl; second = refl; third = refl };
       worked =
-          All-append Right hashing (coding ++ (measuring ++ (skipping ++ tracing))) hashing-right
-          (All-append Right coding (measuring ++ (skipping ++ tracing)) coding-right
-          (All-append Right measuring (skipping ++ tracing) measuring-right (All-append Right skipping tracing skipping-right tracing-right)));
+          All-append IsRight hashing (coding ++ (measuring ++ (skipping ++ tracing))) hashing-right
+          (All-append IsRight coding (measuring ++ (skipping ++ tracing)) coding-right
+          (All-append IsRight measuring (skipping ++ tracing) measuring-right (All-append IsRight skipping tracing skipping-right tracing-right)));
     }
