@@ -7,7 +7,7 @@ use Rattle.tree.specs.Known.{practice, lamport_diffie_code, winternitz2_code, wi
 use Rattle.tree.specs.Meaning.{Code}
 use Rattle.tree.specs.Nodes.{join}
 use Rattle.growth.specs.Grown.{masks_size, secret}
-use Rattle.records.specs.Records.{key_length, release_length, row_of}
+use Rattle.records.specs.Records.{row_start, key_length, release_length, row_of}
 use Rattle.records.specs.Refusals.{refusal_number}
 use Rattle.records.specs.declared.refusal.Refusal.{Refusal}
 use Rattle.compare.specs.Found.{report_size}
@@ -139,9 +139,9 @@ written stamp = sign_output practice lamport_diffie_code new stamp output
 abbrev pub signed : Signing
 signed = sign_state lamport_diffie_code new (string 0) output
 
--- a record with another string k, which lies at byte 8 + 16 k
+-- a record with another string k of its row
 abbrev pub changed : ℕ → ℕ → List ℕ → List ℕ
-changed k b bytes = take 8 bytes ++ put_string (row_of bytes) k (string b)
+changed k b bytes = take row_start bytes ++ put_string (row_of bytes) k (string b)
 
 -- string k of the record of the stamp of zeros
 abbrev pub shown : ℕ → Outcome

@@ -6,10 +6,26 @@ use Rattle.records.specs.Kinds.{kind_number}
 use Rattle.records.specs.declared.kind.RecordKind.{RecordKind}
 use Rattle.records.specs.declared.kind.RecordKind.TheVariants as kind
 
+-- how many bytes stand before a record's body: those of its length and its kind
+abbrev pub body_start : ℕ
+body_start = 6
+
+-- how many stand before the hash key of a key record: the four numbers too, a byte each
+abbrev pub hash_key_start : ℕ
+hash_key_start = body_start + 4
+
+-- before its masks: the hash key too
+abbrev pub masks_start : ℕ
+masks_start = hash_key_start + 16
+
+-- before the row of a release record: the leaf number too
+abbrev pub row_start : ℕ
+row_start = body_start + 2
+
 -- a record: its whole length in 4 bytes, its kind in 2 bytes, then its body
 abbrev pub framed : RecordKind → List ℕ → List ℕ
 framed kind body =
-    little_endian 4 (6 + length body) ++ (little_endian 2 (kind_number kind) ++ body)
+    little_endian 4 (body_start + length body) ++ (little_endian 2 (kind_number kind) ++ body)
 
 -- a key record: hash number, code number, height and a spare 0 in a byte each; hash key, masks,
 -- root
@@ -28,11 +44,11 @@ field bytes i (suc n) = slice_index bytes i + 256 * field bytes (suc i) n
 
 -- as few bytes as any record may have: those of a key record up to its hash key
 abbrev pub shortest_record : ℕ
-shortest_record = 10
+shortest_record = hash_key_start
 
--- how many bytes of a key record are not its masks
+-- how many bytes of a key record are not its masks: those before them, and the root
 abbrev pub beside_masks : ℕ
-beside_masks = 42
+beside_masks = masks_start + 16
 
 -- the whole length of a key record of height h, under a code with these levels: two masks for each
 -- level of the tree and of the tree inside a leaf
@@ -41,7 +57,7 @@ key_length h levels = beside_masks + 32 * (h + levels)
 
 -- the whole length of a release record with `count` chains, under a key of height h
 abbrev pub release_length : ℕ → ℕ → ℕ
-release_length count h = 8 + 16 * (count + h)
+release_length count h = row_start + 16 * (count + h)
 
 -- as many bytes as a release record has at most: 256 chains and 8 siblings
 abbrev pub longest_release : ℕ
@@ -57,27 +73,27 @@ named_kind bytes = field bytes 4 2
 
 -- the parts of a key record: its hash number
 abbrev pub hash_number_of : List ℕ → ℕ
-hash_number_of bytes = slice_index bytes 6
+hash_number_of bytes = slice_index bytes body_start
 
 -- its code number
 abbrev pub code_number_of : List ℕ → ℕ
-code_number_of bytes = slice_index bytes 7
+code_number_of bytes = slice_index bytes (body_start + 1)
 
 -- its height
 abbrev pub height_of : List ℕ → ℕ
-height_of bytes = slice_index bytes 8
+height_of bytes = slice_index bytes (body_start + 2)
 
 -- its spare byte
 abbrev pub spare_of : List ℕ → ℕ
-spare_of bytes = slice_index bytes 9
+spare_of bytes = slice_index bytes (body_start + 3)
 
 -- its hash key
 abbrev pub hash_key_of : List ℕ → List ℕ
-hash_key_of bytes = take 16 (drop 10 bytes)
+hash_key_of bytes = take 16 (drop hash_key_start bytes)
 
 -- its masks (bitmasks), which stand between the hash key and the root
 abbrev pub masks_of : List ℕ → List ℕ
-masks_of bytes = take (length bytes - beside_masks) (drop 26 bytes)
+masks_of bytes = take (length bytes - beside_masks) (drop masks_start bytes)
 
 -- its root, the last 16 bytes
 abbrev pub root_of : List ℕ → List ℕ
@@ -85,8 +101,8 @@ root_of bytes = take 16 (drop (length bytes - 16) bytes)
 
 -- the parts of a release record: its leaf number
 abbrev pub leaf_of : List ℕ → ℕ
-leaf_of bytes = field bytes 6 2
+leaf_of bytes = field bytes body_start 2
 
 -- its row of strings
 abbrev pub row_of : List ℕ → List ℕ
-row_of bytes = drop 8 bytes
+row_of bytes = drop row_start bytes

@@ -5,9 +5,9 @@ use Rattle.std.specs.Prelude.{Result, ◌==◌, nat_le, nat_lt}
 use Rattle.tree.specs.Nodes.{tallest}
 use Rattle.records.specs.Keys.{Key, Release}
 use Rattle.records.specs.Kinds.{kind_number}
-use Rattle.records.specs.Records.{named_length, named_kind, shortest_record, key_length}
-use Rattle.records.specs.Records.{release_length, hash_number_of, code_number_of, height_of}
-use Rattle.records.specs.Records.{spare_of, leaf_of, row_of}
+use Rattle.records.specs.Records.{body_start, named_length, named_kind, shortest_record}
+use Rattle.records.specs.Records.{key_length, release_length, hash_number_of, code_number_of}
+use Rattle.records.specs.Records.{height_of, spare_of, leaf_of, row_of}
 use Rattle.records.specs.declared.kind.RecordKind.{RecordKind}
 use Rattle.records.specs.declared.kind.RecordKind.TheVariants as kind
 use Rattle.records.specs.declared.refusal.Refusal.{Refusal}
@@ -40,7 +40,8 @@ has_bad_kind kind bytes = not (named_kind bytes == kind_number kind)
 -- the body of a record of this kind
 abbrev pub header_rule : RecordKind → List ℕ → Result (List ℕ) Refusal
 header_rule kind bytes =
-    refuse (has_bad_length bytes) Length (refuse (has_bad_kind kind bytes) Kind (Ok (drop 6 bytes)))
+    refuse (has_bad_length bytes) Length
+    (refuse (has_bad_kind kind bytes) Kind (Ok (drop body_start bytes)))
 
 -- another hash or code number in a key record than these
 abbrev pub is_foreign : ℕ → ℕ → List ℕ → Bool

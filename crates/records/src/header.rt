@@ -5,6 +5,7 @@ ghost use Rattle.std.specs.Option.{option_map};
 ghost use Rattle.strings.specs.Strings.{little_endian};
 ghost use Rattle.records.specs.Headers.{split_header};
 ghost use Rattle.records.specs.Kinds.{kind_number};
+ghost use Rattle.records.specs.Records.{body_start};
 ghost use Rattle.records.specs.Rules.{seen, header_rule};
 ghost use Rattle.records.specs.Views.{header_of};
 
@@ -58,10 +59,10 @@ pub fn body_of(bytes: &[u8], kind: RecordKind) -> Result<&[u8], Refusal>
 /// Writes what every record begins with into the first 6 bytes of the output: its whole length in
 /// bytes, `size`, and its kind. The bytes after these 6 stay.
 pub(crate) fn write_header(out: &mut [u8], kind: RecordKind, size: usize)
-    requires room { 6 ≤ length out.old }
+    requires room { body_start ≤ length out.old }
     requires short { size < 2 ^ 32 }
-    ensures front { take 6 out.new ≡ little_endian 4 size ++ little_endian 2 (kind_number kind) }
-    ensures back { drop 6 out.new ≡ drop 6 out.old }
+    ensures front { take body_start out.new ≡ little_endian 4 size ++ little_endian 2 (kind_number kind) }
+    ensures back { drop body_start out.new ≡ drop body_start out.old }
 {
     let [a, b, c, d] = (size as u32).to_le_bytes();
     let [e, f] = kind.number().to_le_bytes();

@@ -4,7 +4,7 @@ ghost use Rattle.std.specs.Prelude.{◌≡◌, ℕ, ◌+◌, ◌*◌, ◌<◌, �
 ghost use Rattle.tree.specs.Rows.{row_from};
 ghost use Rattle.tree.specs.Nodes.{tallest};
 ghost use Rattle.records.specs.Reads.{ReadsReleases};
-ghost use Rattle.records.specs.Records.{release_length, release_bytes};
+ghost use Rattle.records.specs.Records.{body_start, row_start, release_length, release_bytes};
 ghost use Rattle.records.specs.Rules.{seen, parts_rule, release_rule};
 ghost use Rattle.records.specs.Views.{release_of};
 
@@ -28,7 +28,7 @@ pub struct Release<'a> {
 /// (`parts_rule` in specs/). Refuses with 10, `Layout`, a body of another byte count than that of
 /// `release_length`, and then with 11, `Leaf`, a leaf number of 2^height or more.
 pub fn parts_of<C: Code>(height: u8, body: &[u8]) -> Result<Release<'_>, Refusal>
-    ensures { (bytes : List ℕ) → body.now ≡ drop 6 bytes →
+    ensures { (bytes : List ℕ) → body.now ≡ drop body_start bytes →
         seen release_of result ≡ parts_rule C.Code.COUNT height bytes }
 {
     let [low, high, row @ ..] = body else {
@@ -76,9 +76,9 @@ pub trait ReleaseRow {
 // them stay.
 fn write_row<R: ReleaseRow>(out: &mut [u8], row: &R, count: usize, work: &mut [u8; WORK])
     requires whole { count ≡ R.count row.now }
-    requires room { 8 + 16 * count ≤ length out.old }
-    ensures after { out.new ≡ (take 8 out.old ++ row_from (R.strings row.now) count)
-        ++ drop (8 + 16 * count) out.old }
+    requires room { row_start + 16 * count ≤ length out.old }
+    ensures after { out.new ≡ (take row_start out.old ++ row_from (R.strings row.now) count)
+        ++ drop (row_start + 16 * count) out.old }
     ensures long { length (row_from (R.strings row.now) count) ≡ 16 * count }
 {
     for place in 0..count {
