@@ -1,12 +1,12 @@
 -- What is found, and what a report of it holds.
-use Rattle.std.proofs.Common.{◌≡◌, ℕ, ◌+◌, ◌*◌, ◌≤◌, List, length, take, drop, sym, ap, ◌∙◌}
+use Rattle.std.proofs.Common.{◌≡◌, ℕ, ◌+◌, ◌*◌, ◌≤◌, List, length, sym, ap, ◌∙◌}
 use Rattle.strings.specs.Strings.{IsBytes, string_at, zero_string}
 use Rattle.tree.specs.Meaning.{Hash, Code}
 use Rattle.compare.specs.Sides.{Traced, our_chain, their_chain, our_node, their_node, left_input, right_input}
 use Rattle.compare.specs.Found.{NodeBreak, ChainBreak, node_report, chain_report, unrevealed_report}
 use Rattle.compare.proofs.Lawful.{Lawful}
 use Rattle.compare.proofs.Nodes.{their-parent}
-use Rattle.compare.proofs.Rows.{four-strings, four-halves}
+use Rattle.compare.proofs.Rows.{four-strings}
 use Rattle.growth.proofs.Strings.{zero-str}
 use Rattle.growth.proofs.Trees.{node-up}
 use Rattle.compare.proofs.Strings.{our-chain-str, their-chain-str, our-inputs-str, their-inputs-str}
@@ -38,11 +38,10 @@ module _ (hash : Hash) (code : Code) (t : Traced) where
           let at = node-report a b break in
           (λ i. hash.pair key (at.0 i) (at.1 i)) ∙ node-break-means a b break ∙ (λ i. hash.pair key (sym at.2 i) (sym at.3 i))
 
-      pub node-report-differs : (a b : ℕ) → NodeBreak hash code t a b → take 32 (node_report hash code t a b) ≡ drop 32 (node_report hash code t a b) → ⊥
+      pub node-report-differs : (a b : ℕ) → NodeBreak hash code t a b → (string_at (node_report hash code t a b) 0 ≡ string_at (node_report hash code t a b) 2) × (string_at (node_report hash code t a b) 1 ≡ string_at (node_report hash code t a b) 3) → ⊥
       node-report-differs a b break same =
-          let our = our-inputs-str hash code t lawful tall a b break.inner in
-          let their = their-inputs-str hash code t lawful tall long bytes a b break.inner break.near in
-          break.differ (four-halves _ _ _ _ our.0.0 our.1.0 their.0.0 their.1.0 same)
+          let at = node-report a b break in
+          break.differ (sym at.0 ∙ same.0 ∙ at.2, sym at.1 ∙ same.1 ∙ at.3)
 
       -- the report of a chain: the strings of both sides; step takes both to one string, and they differ
       pub chain-report : (k e : ℕ) → ChainBreak hash code t k e → (string_at (chain_report hash code t k e) 0 ≡ our_chain hash code t k e) × (string_at (chain_report hash code t k e) 1 ≡ their_chain hash code t k e)

@@ -2,7 +2,7 @@
 use Rattle.std.proofs.Common.{◌≡◌, ℕ, ◌+◌, ◌*◌, ◌/◌, ◌%◌, ◌<◌, ◌⊎◌, List, ◌++◌, length, get_or, take, drop, sym, ap, ◌∙◌, inl, inr, ⊎_elim, arith}
 use Rattle.std.specs.Str.{bytes_eq}
 use Rattle.std.proofs.lemmas.Slice.Eq.{bytes_eq-Decides}
-use Rattle.std.proofs.lemmas.List.{ext_get_or, get_or-take, get_or-drop, take_at, take_all, take-take, drop_at, drop-drop, drop-take}
+use Rattle.std.proofs.lemmas.List.{ext_get_or, get_or-take, get_or-drop, take_at, take_all, drop_at, drop-drop}
 use Rattle.std.proofs.lemmas.Bool.{cases_Bool}
 use Rattle.std.proofs.lemmas.Bool.Decides.{not_from_Decides}
 use Rattle.strings.specs.Strings.{IsString, numeral, string_at}
@@ -60,11 +60,4 @@ module _ (a b c d : List ℕ) (al : length a ≡ 16) (bl : length b ≡ 16) (cl 
     ap (take 16) past_first ∙ take_at b (c ++ d) 16 bl,
     ap (take 16) past-second ∙ take_at c d 16 cl,
     ap (take 16) past-third ∙ take_all 16 d (omega arith),
-  )
-
-  -- halves that are equal are made of equal strings
-  pub four-halves : take 32 four ≡ drop 32 four → (a ≡ c) × (b ≡ d)
-  four-halves e = (
-    sym four-strings.0 ∙ sym (take-take 16 32 four (omega arith)) ∙ ap (take 16) e ∙ four-strings.2,
-    sym four-strings.1 ∙ sym (drop-take 16 16 four) ∙ ap (drop 16) e ∙ drop-drop 16 32 four ∙ past-third,
   )

@@ -1,6 +1,6 @@
 -- What is promised of every history that leads to a signer, in service or retired, that traces a
 -- record.
-use Rattle.std.specs.Prelude.{◌≡◌, ◌≢◌, ℕ, ◌<◌, ◌≤◌, ◌⊎◌, List, ◌∷◌, ◌++◌, take, drop}
+use Rattle.std.specs.Prelude.{◌≡◌, ◌≢◌, ℕ, ◌<◌, ◌≤◌, ◌⊎◌, List, ◌∷◌, ◌++◌}
 use Rattle.std.specs.Prelude.{replicate, Ok, Result}
 use Rattle.strings.specs.Strings.{string_at}
 use Rattle.tree.specs.Meaning.{Hash, Code}
@@ -47,14 +47,11 @@ VerdictOurs r = (x : ℕ) × (y : ℕ) × (r ≡ Ok (0, x, y))
 abbrev pub SaysOurs : ℕ → TraceAnswer → List ℕ → Type 0
 SaysOurs i r report = (r ≡ Ok (0, i, 0)) × (report ≡ replicate report_size 0)
 
--- how many bytes the two strings have that are one input of pair
-abbrev pub pair_size : ℕ
-pair_size = 32
-
 -- a report of two different inputs of pair with one value (a collision of pair): its strings 0 and
 -- 1, and its strings 2 and 3
 pub record PairBreak (hash : Hash) (key report : List ℕ) : Type 0 where
-  pub differ : take pair_size report ≢ drop pair_size report
+  pub differ :
+      (string_at report 0 ≡ string_at report 2) × (string_at report 1 ≡ string_at report 3) → ⊥
   pub meet :
       hash.pair key (string_at report 0) (string_at report 1)
       ≡ hash.pair key (string_at report 2) (string_at report 3)

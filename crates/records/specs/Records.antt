@@ -6,19 +6,20 @@ use Rattle.records.specs.Kinds.{kind_number}
 use Rattle.records.specs.declared.kind.RecordKind.{RecordKind}
 use Rattle.records.specs.declared.kind.RecordKind.TheVariants as kind
 
--- how many bytes stand before a record's body: those of its length and its kind
+-- how many bytes stand before the body of a record: those of its length and its kind
 abbrev pub body_start : ℕ
 body_start = 6
 
--- how many stand before the hash key of a key record: the four numbers too, a byte each
+-- how many stand before the hash key of a key record: those before the body, and four of a byte
+-- each
 abbrev pub hash_key_start : ℕ
 hash_key_start = body_start + 4
 
--- before its masks: the hash key too
+-- how many stand before the masks of a key record: those before the hash key, and the hash key
 abbrev pub masks_start : ℕ
 masks_start = hash_key_start + 16
 
--- before the row of a release record: the leaf number too
+-- how many stand before the row of a release record: those before the body, and the leaf number
 abbrev pub row_start : ℕ
 row_start = body_start + 2
 

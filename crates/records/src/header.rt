@@ -61,7 +61,8 @@ pub fn body_of(bytes: &[u8], kind: RecordKind) -> Result<&[u8], Refusal>
 pub(crate) fn write_header(out: &mut [u8], kind: RecordKind, size: usize)
     requires room { body_start ≤ length out.old }
     requires short { size < 2 ^ 32 }
-    ensures front { take body_start out.new ≡ little_endian 4 size ++ little_endian 2 (kind_number kind) }
+    ensures front { take body_start out.new ≡
+        little_endian 4 size ++ little_endian 2 (kind_number kind) }
     ensures back { drop body_start out.new ≡ drop body_start out.old }
 {
     let [a, b, c, d] = (size as u32).to_le_bytes();

@@ -4,9 +4,6 @@
 /// Of either record: its body, which follows 4 bytes of length and 2 of kind.
 pub const BODY: usize = 6;
 
-/// As few bytes as any record may have: those of a key record up to its hash key.
-pub const SHORTEST: usize = 10;
-
 /// In a key record: the hash's number, one byte.
 pub const HASH_NUMBER: usize = BODY;
 
@@ -21,6 +18,9 @@ pub const SPARE: usize = BODY + 3;
 
 /// In a key record: the hash key, 16 bytes.
 pub const HASH_KEY: usize = BODY + 4;
+
+/// As few bytes as any record may have: those of a key record up to its hash key.
+pub const SHORTEST: usize = HASH_KEY;
 
 /// In a key record: the bitmasks, 32 bytes for each level. The root follows them, 16 bytes.
 pub const MASKS: usize = HASH_KEY + 16;
